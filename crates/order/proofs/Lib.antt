@@ -1,0 +1,4 @@
+pub mod Standings
+pub mod Orderings
+pub mod Places
+pub mod Lines
