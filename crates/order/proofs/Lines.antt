@@ -6,7 +6,7 @@ use mathlib.Core.Logic.{inl, inr}
 use Prim.Native.Nat.{ℕ, zero, suc, _+_, _<_, _≤_}
 use native.Mathlib.Numerals.{one-add}
 use native.Mathlib.Omega.{arith}
-use lib.ListN.{length, take, drop, getD}
+use lib.ListN.{length, take, drop, getD, length-append, length-take, length-drop}
 use Rattle.std.specs.shelf.Lists.{inserted, removed, leading, All}
 use Rattle.std.proofs.shelf.Edits.{length-inserted}
 use Rattle.std.proofs.shelf.Sums.{leading-drop-yes, leading-drop-no, leading-drop-all, leading-le-length}
@@ -99,3 +99,8 @@ ordered-removed {X} cmp (suc k) (x ∷ xs) s =
 pub ordered-without : {X : Type 0} (cmp : X → X → Standing) (p : ℕ) (xs : List X) → Ordered cmp xs → Ordered cmp (without p xs)
 ordered-without cmp zero xs s = s
 ordered-without cmp (suc k) xs s = ordered-removed cmp k xs s
+
+-- and is no longer than it was
+pub length-without : {X : Type 0} (p : ℕ) (xs : List X) → length (without p xs) ≤ length xs
+length-without zero xs = omega arith
+length-without (suc k) xs = simp (length-append, length-take, length-drop) (omega arith)

@@ -1,4 +1,4 @@
--- Orderings keep the laws when they are made of others: `along`, `opposite` and `by-turns`; and numbers keep them.
+-- Orderings keep the laws when they are made of others: `along`, `at-each` and `by-turns`; and numbers keep them.
 -- Cited where an `impl` of `Ordering` owes its laws.
 use mathlib.Core.Path.{_≡_, refl, sym, ap, _∙_}
 use mathlib.Core.Bool.{true, false}
@@ -36,6 +36,14 @@ along standing laws of taken = record {
   ahead-behind = λ o a b. laws .ahead-behind (of o) (taken o a) (taken o b);
   behind-ahead = λ o a b. laws .behind-ahead (of o) (taken o a) (taken o b);
   chained = λ o a b c. laws .chained (of o) (taken o a) (taken o b) (taken o c);
+}
+
+-- an ordering that is chosen among orderings
+pub at-each : {S I : Type 0} (standing : S → I → I → Standing) → ((o : S) → Laws {S = Unit {0}} {I = I} (λ _. standing o)) → Laws standing
+at-each standing laws = record {
+  ahead-behind = λ o. laws o .ahead-behind tt;
+  behind-ahead = λ o. laws o .behind-ahead tt;
+  chained = λ o. laws o .chained tt;
 }
 
 -- one ordering decides, and where it is level the next

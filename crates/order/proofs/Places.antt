@@ -11,13 +11,16 @@ use lib.ListN.{length, take, drop, getD, set, length-drop, length-append}
 use lib.Seq.{paste}
 use Rattle.std.specs.shelf.Lists.{inserted, removed}
 use Rattle.std.specs.shelf.Maps.{nth}
+use Rattle.std.specs.Options.{Cases as BySome}
+use Rattle.std.specs.declared.option.Option.{Option}
 use Rattle.std.specs.declared.option.Option.the-variants.{Some, None}
 use Rattle.std.proofs.shelf.Maps.{nth-read, nth-past}
 use Rattle.std.proofs.shelf.Lists.{set-split, take-at, take-all, drop-all, append-nil, getD-take, length-take, take-append-le, take-take, drop-at, length-take-le}
 use Rattle.std.proofs.shelf.Edits.{length-paste, length-inserted, length-removed}
 use Rattle.std.proofs.shelf.Parts.{between-is}
 use Rattle.std.proofs.shelf.Tests.{cases-lt, lt-ltb, le-ltb}
-use Rattle.order.specs.Lines.{laid, at-place, without}
+use Rattle.order.specs.Lines.{laid, lined, at-place, without}
+use Rattle.order.specs.declared.line.Line.{Line}
 
 -- a line laid over the places is what their first places then hold
 pub taken : {X : Type 0} (line xs : List X) (m : ℕ) → m ≡ length line → take m (laid line xs) ≡ line
@@ -119,3 +122,10 @@ module _ {X : Type 0} (n : ℕ) (xs : List X) where
 
   pub full : length xs ≤ n → ltb (length (take n xs)) (length xs) ≡ false
   full h = le-ltb _ _ (simp length-take (omega arith))
+
+-- a line that counts as many as before, or one more, over as many places: what had room with it still has
+pub fits-more : {X : Type 0} (line line′ : Line) (xs xs′ : List X) (r : Option ℕ) (n m : ℕ) → BySome r (line′ ≡ line) (λ _. line′ .len ≡ line .len + 1) → n + length (lined line xs) < m → length xs′ ≡ length xs → n + length (lined line′ xs′) ≤ m
+fits-more line line′ xs xs′ None n m same lt long =
+    let e = ap (λ (l : Line). l .len) same in
+    simp length-take (omega (arith, e, long, length-take (line .len) xs))
+fits-more line line′ xs xs′ (Some place) n m more lt long = simp length-take (omega (arith, length-take (line .len) xs))

@@ -1,6 +1,6 @@
 // A line of things of one kind, kept in the first places of a slice that is lent at each call.
 ghost use mathlib.Core.Path.{_≡_};
-ghost use Prim.Native.Nat.{ℕ, _+_, _-_, _≤_};
+ghost use Prim.Native.Nat.{ℕ, _+_, _-_, _<_, _≤_};
 ghost use lib.Dec.{ltb};
 ghost use lib.ListN.{length};
 ghost use Rattle.std.specs.Options.{Cases as BySome};
@@ -27,6 +27,7 @@ impl Line {
     // Those in line, the first at the front.
     pub fn all<'a, T>(&self, places: &'a [T]) -> &'a [T]
         ensures line { λ r. ⌜ now r ≡ lined (now (self .entry)) (now (places .entry)) ⌝ }
+        ensures bound { λ r. ⌜ length (now r) ≤ length (now (places .entry)) ⌝ }
     {
         &places[0..self.len.min(places.len())]
     }
@@ -42,6 +43,7 @@ impl Line {
     where
         O::Item: Copy,
         ensures place { λ r. ⌜ r ≡ told (length (now (places .entry))) (O·Ordering .standing (now (order .entry))) item (lined (now (self .entry)) (now (places .entry))) ⌝ }
+        ensures within { λ r. ⌜ BySome r (Unit {0}) (λ place. (0 < place) × (place ≤ length (now (places .entry)))) ⌝ }
         ensures line { λ _. ⌜ lined (now (self .exit)) (now (places .exit)) ≡ joined (length (now (places .entry))) (O·Ordering .standing (now (order .entry))) item (lined (now (self .entry)) (now (places .entry))) ⌝ }
         ensures slots { λ _. ⌜ now (places .exit) ≡ laid (joined (length (now (places .entry))) (O·Ordering .standing (now (order .entry))) item (lined (now (self .entry)) (now (places .entry)))) (now (places .entry)) ⌝ }
         ensures count { λ r. ⌜ BySome r (now (self .exit) ≡ now (self .entry)) (λ _. now (self .exit) .len ≡ now (self .entry) .len + 1) ⌝ }

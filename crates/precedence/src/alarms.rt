@@ -7,7 +7,7 @@ use order::standing::higher_first;
 
 // What an alarm limits: the time to talk, or the grace after a recall.
 #[derive(Clone, Copy)]
-pub enum Limits {
+pub enum AlarmKind {
     Talk,
     Grace,
 }
@@ -17,7 +17,7 @@ pub enum Limits {
 pub struct Alarm {
     pub due: u32,
     pub grant: u16,
-    pub limits: Limits,
+    pub kind: AlarmKind,
 }
 
 // The earlier is ahead.

@@ -24,6 +24,7 @@ returns-then-self-places g c =
     let same : joined (length xs) cmp x (take n xs) ≡ take n xs = cond-false _ _ _ no in
     record {
       place = sym (cond-false _ _ _ no);
+      within = tt;
       line = sym same;
       slots = sym (ap (λ l. laid l xs) same ∙ laid-same n xs);
       count = refl;
@@ -49,6 +50,7 @@ returns g c =
     let line = ap (take (n + 1)) holds ∙ taken (insert cmp x (take n xs)) xs (n + 1) counts in
     record {
       place = ap (λ m. Some (m + 1)) stands ∙ sym (cond-true _ _ _ yes);
+      within = (omega arith, omega arith);
       line = line ∙ sym grown;
       slots = holds ∙ sym (ap (λ l. laid l xs) grown);
       count = refl;

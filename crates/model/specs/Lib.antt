@@ -1,0 +1,6 @@
+pub mod Words
+pub mod Causes
+pub mod Refusals
+pub mod Acts
+pub mod Settings
+pub mod Tables

@@ -1,0 +1,116 @@
+// Looking for a camera or a grant in a table: the place of the first entry that passes a test.
+ghost use mathlib.Core.Path.{_≡_};
+ghost use mathlib.Core.Bool.{Bool};
+ghost use denote.Ref.{now};
+ghost use lib.Dec.{eqb};
+ghost use lib.ListN.{length};
+ghost use Prim.Native.Nat.{_≤_, _<_};
+ghost use Rattle.std.specs.Options.{Cases as BySome};
+ghost use Rattle.model.specs.Words.{place-of-first};
+use crate::tables::Member;
+use crate::tables::Transmission;
+use precedence::alarms::Alarm;
+use precedence::claims::Claim;
+
+// A test of things of one kind, `Item`.
+pub trait Test {
+    type Item;
+
+    ghost passes: { Self → Self·Item → Bool };
+
+    fn passes(&self, item: &Self::Item) -> bool
+        ensures test { λ r. ⌜ r ≡ passes (now (self .entry)) (now (item .entry)) ⌝ };
+}
+
+// The member that is this camera.
+#[derive(Clone, Copy)]
+pub struct IsMember {
+    pub camera: u32,
+}
+
+pub impl Test for IsMember as IsMemberTest {
+    type Item = Member;
+
+    ghost passes = { λ t m. eqb (m .camera) (t .camera) };
+
+    fn passes(&self, item: &Member) -> bool {
+        item.camera == self.camera
+    }
+}
+
+// The claim of this camera.
+#[derive(Clone, Copy)]
+pub struct IsClaimOf {
+    pub camera: u32,
+}
+
+pub impl Test for IsClaimOf as IsClaimOfTest {
+    type Item = Claim;
+
+    ghost passes = { λ t w. eqb (w .camera) (t .camera) };
+
+    fn passes(&self, item: &Claim) -> bool {
+        item.camera == self.camera
+    }
+}
+
+// The transmission of this camera.
+#[derive(Clone, Copy)]
+pub struct IsTransmissionOf {
+    pub camera: u32,
+}
+
+pub impl Test for IsTransmissionOf as IsTransmissionOfTest {
+    type Item = Transmission;
+
+    ghost passes = { λ t x. eqb (x .camera) (t .camera) };
+
+    fn passes(&self, item: &Transmission) -> bool {
+        item.camera == self.camera
+    }
+}
+
+// The transmission under this grant.
+#[derive(Clone, Copy)]
+pub struct IsNumbered {
+    pub number: u16,
+}
+
+pub impl Test for IsNumbered as IsNumberedTest {
+    type Item = Transmission;
+
+    ghost passes = { λ t x. eqb (x .number) (t .number) };
+
+    fn passes(&self, item: &Transmission) -> bool {
+        item.number == self.number
+    }
+}
+
+// The alarm of this grant.
+#[derive(Clone, Copy)]
+pub struct IsAlarmOf {
+    pub grant: u16,
+}
+
+pub impl Test for IsAlarmOf as IsAlarmOfTest {
+    type Item = Alarm;
+
+    ghost passes = { λ t a. eqb (a .grant) (t .grant) };
+
+    fn passes(&self, item: &Alarm) -> bool {
+        item.grant == self.grant
+    }
+}
+
+// The place of the first that passes, from 1, if any does.
+pub fn place_of_first<K: Test>(items: &[K::Item], test: &K) -> Option<usize>
+    ensures place { λ r. ⌜ r ≡ place-of-first (K·Test .passes (now (test .entry))) (now (items .entry)) ⌝ }
+    ensures within { λ r. ⌜ BySome r (Unit {0}) (λ place. (0 < place) × (place ≤ length (now (items .entry)))) ⌝ }
+{
+    for (i, item) in items.iter().enumerate() {
+        if test.passes(item) {
+            return Some(i + 1);
+        }
+    }
+    None
+}
