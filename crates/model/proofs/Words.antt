@@ -4,11 +4,11 @@ use mathlib.Core.Bool.{Bool, true, false, cond, _||_}
 use mathlib.Core.List.{List, [], _∷_}
 use Prim.Native.Nat.{ℕ, _+_, _<_, _≤_}
 use native.Mathlib.Omega.{arith}
+use lib.Dec.{ltb}
 use lib.ListN.{length, drop, getD}
-use Rattle.std.specs.declared.option.Option.the-variants.{Some, None}
 use Rattle.std.proofs.shelf.Lists.{at-drop-more, at-drop-all}
-use Rattle.std.proofs.shelf.Tests.{cond-true, cond-false}
-use Rattle.model.specs.Words.{has, until, place-of-first}
+use Rattle.std.proofs.shelf.Tests.{lt-ltb, le-ltb}
+use Rattle.model.specs.Words.{has, until}
 
 module _ {X : Type 0} (p : X → Bool) (xs : List X) where
   -- what is left from i on tells what the whole list tells
@@ -38,14 +38,18 @@ module _ {X : Type 0} (p : X → Bool) (xs : List X) where
       let u : until p (drop i xs) ≡ until p (drop (i + 1) xs) + 1 = until-more i y b h ∙ ap (λ c. cond c 0 (until p (drop (i + 1) xs) + 1)) isnt in
       (sym a ∙ inv .0, omega (arith, u, inv .1))
 
-  pub stop : (i : ℕ) (y : X) (b : Bool) → Here i y b → b ≡ true → Left i → Some (i + 1) ≡ place-of-first p xs
+  -- what is said of a count where the loop ends
+  abbrev Told : ℕ → Type 0
+  Told n = (n ≡ until p xs) × (has p xs ≡ ltb n (length xs))
+
+  pub stop : (i : ℕ) (y : X) (b : Bool) → Here i y b → b ≡ true → Left i → Told i
   stop i y b h is inv =
       let a : has p xs ≡ true = sym (inv .0) ∙ has-more i y b h ∙ ap (λ c. c || has p (drop (i + 1) xs)) is in
       let u : until p (drop i xs) ≡ 0 = until-more i y b h ∙ ap (λ c. cond c 0 (until p (drop (i + 1) xs) + 1)) is in
-      let e : i ≡ until p xs = omega (arith, u, inv .1) in
-      ap (λ k. Some (k + 1)) e ∙ sym (cond-true (has p xs) _ _ a)
+      (omega (arith, u, inv .1), a ∙ sym (lt-ltb i (length xs) (h .0)))
 
-  pub end : (i : ℕ) → length xs ≤ i → Left i → None ≡ place-of-first p xs
-  end i to inv =
+  pub end : (i : ℕ) → i ≤ length xs → length xs ≤ i → Left i → Told (length xs)
+  end i up to inv =
       let a : has p xs ≡ false = sym (inv .0) ∙ at-drop-all (has p) xs i to in
-      sym (cond-false (has p xs) _ _ a)
+      let u : until p (drop i xs) ≡ 0 = at-drop-all (until p) xs i to in
+      (omega (arith, u, inv .1), a ∙ sym (le-ltb (length xs) (length xs) (omega arith)))

@@ -2,11 +2,11 @@
 ghost use mathlib.Core.Path.{_≡_};
 ghost use mathlib.Core.Bool.{Bool};
 ghost use denote.Ref.{now};
-ghost use lib.Dec.{eqb};
+ghost use lib.Dec.{eqb, ltb};
 ghost use lib.ListN.{length};
 ghost use Prim.Native.Nat.{_≤_, _<_};
 ghost use Rattle.std.specs.Options.{Cases as BySome};
-ghost use Rattle.model.specs.Words.{place-of-first};
+ghost use Rattle.model.specs.Words.{has, until, place-of-first};
 use crate::tables::Member;
 use crate::tables::Transmission;
 use precedence::alarms::Alarm;
@@ -33,8 +33,8 @@ pub impl Test for IsMember as IsMemberTest {
 
     ghost passes = { λ t m. eqb (m .camera) (t .camera) };
 
-    fn passes(&self, item: &Member) -> bool {
-        item.camera == self.camera
+    fn passes(&self, member: &Member) -> bool {
+        member.camera == self.camera
     }
 }
 
@@ -49,8 +49,8 @@ pub impl Test for IsClaimOf as IsClaimOfTest {
 
     ghost passes = { λ t w. eqb (w .camera) (t .camera) };
 
-    fn passes(&self, item: &Claim) -> bool {
-        item.camera == self.camera
+    fn passes(&self, claim: &Claim) -> bool {
+        claim.camera == self.camera
     }
 }
 
@@ -65,8 +65,8 @@ pub impl Test for IsTransmissionOf as IsTransmissionOfTest {
 
     ghost passes = { λ t x. eqb (x .camera) (t .camera) };
 
-    fn passes(&self, item: &Transmission) -> bool {
-        item.camera == self.camera
+    fn passes(&self, transmission: &Transmission) -> bool {
+        transmission.camera == self.camera
     }
 }
 
@@ -81,8 +81,8 @@ pub impl Test for IsNumbered as IsNumberedTest {
 
     ghost passes = { λ t x. eqb (x .number) (t .number) };
 
-    fn passes(&self, item: &Transmission) -> bool {
-        item.number == self.number
+    fn passes(&self, transmission: &Transmission) -> bool {
+        transmission.number == self.number
     }
 }
 
@@ -97,8 +97,8 @@ pub impl Test for IsAlarmOf as IsAlarmOfTest {
 
     ghost passes = { λ t a. eqb (a .grant) (t .grant) };
 
-    fn passes(&self, item: &Alarm) -> bool {
-        item.grant == self.grant
+    fn passes(&self, alarm: &Alarm) -> bool {
+        alarm.grant == self.grant
     }
 }
 
@@ -107,10 +107,23 @@ pub fn place_of_first<K: Test>(items: &[K::Item], test: &K) -> Option<usize>
     ensures place { λ r. ⌜ r ≡ place-of-first (K·Test .passes (now (test .entry))) (now (items .entry)) ⌝ }
     ensures within { λ r. ⌜ BySome r (Unit {0}) (λ place. (0 < place) × (place ≤ length (now (items .entry)))) ⌝ }
 {
+    let before = before_first(items, test);
+    if before < items.len() {
+        Some(before + 1)
+    } else {
+        None
+    }
+}
+
+// How many come before the first that passes, or all of them if none does.
+fn before_first<K: Test>(items: &[K::Item], test: &K) -> usize
+    ensures count { λ r. ⌜ r ≡ until (K·Test .passes (now (test .entry))) (now (items .entry)) ⌝ }
+    ensures some { λ r. ⌜ has (K·Test .passes (now (test .entry))) (now (items .entry)) ≡ ltb r (length (now (items .entry))) ⌝ }
+{
     for (i, item) in items.iter().enumerate() {
         if test.passes(item) {
-            return Some(i + 1);
+            return i;
         }
     }
-    None
+    items.len()
 }

@@ -8,56 +8,42 @@ use native.Mathlib.Numerals.{one-add}
 use native.Mathlib.Omega.{arith}
 use lib.ListN.{length, take, drop, getD, length-append, length-take, length-drop}
 use Rattle.std.specs.shelf.Lists.{inserted, removed, leading, All}
-use Rattle.std.proofs.shelf.Edits.{length-inserted}
 use Rattle.std.proofs.shelf.Sums.{leading-drop-yes, leading-drop-no, leading-drop-all, leading-le-length}
 use Rattle.std.proofs.shelf.Tests.{cond-both, cases-bool}
 use Rattle.std.proofs.shelf.Elements.{all-weaker, all-append, all-take, all-drop}
 use Rattle.order.specs.Standings.{not-behind}
 use Rattle.order.specs.Laws.{Laws}
 use Rattle.order.specs.Lines.{place-of, insert, Ordered, Amid, without}
-use Rattle.order.proofs.Standings.{test-not-behind, isnt-behind, is-behind, turned-not-behind}
+use Rattle.order.proofs.Standings.{isnt-behind, is-behind, turned-not-behind}
 use Rattle.order.proofs.Orderings.{mirrored}
 use Rattle.order.specs.declared.standing.Standing.{Standing}
 use Rattle.order.specs.declared.standing.Standing.the-variants.{Behind}
 
 -- the loop that looks for a newcomer's place
 module _ {X : Type 0} (cmp : X → X → Standing) (x : X) (xs : List X) where
-  -- the one at i is behind x
-  pub stop : (i : ℕ) (y : X) (s : Standing) → i < length xs → y ≡ getD xs i y → s ≡ cmp y x → s ≡ Behind → i + place-of cmp x (drop i xs) ≡ place-of cmp x xs → i ≡ place-of cmp x xs
-  stop i y s within read answer is inv =
-      let e : not-behind (cmp (getD xs i y) x) ≡ false = ap (λ z. not-behind (cmp z x)) (sym read) ∙ ap not-behind (sym answer ∙ is) in
-      omega (arith, inv, leading-drop-no (λ z. not-behind (cmp z x)) xs i y within e)
+  -- those passed, and how far the newcomer goes among the rest
+  abbrev pub Passed : ℕ → Type 0
+  Passed i = i + place-of cmp x (drop i xs) ≡ place-of cmp x xs
 
-  -- the one at i is not
-  pub pass : (i : ℕ) (y : X) (s : Standing) → i < length xs → y ≡ getD xs i y → s ≡ cmp y x → (s ≡ Behind → ⊥) → i + place-of cmp x (drop i xs) ≡ place-of cmp x xs → i + 1 + place-of cmp x (drop (i + 1) xs) ≡ place-of cmp x xs
-  pass i y s within read answer isnt inv =
-      let e : not-behind (cmp (getD xs i y) x) ≡ true = ap (λ z. not-behind (cmp z x)) (sym read) ∙ ap not-behind (sym answer) ∙ test-not-behind s isnt in
-      omega (arith, inv, leading-drop-yes (λ z. not-behind (cmp z x)) xs i y within e)
+  -- y stands at i, and b tells whether it keeps its place before x
+  abbrev Here : ℕ → X → Bool → Type 0
+  Here i y b = (i < length xs) × (y ≡ getD xs i y) × (b ≡ not-behind (cmp y x))
 
-  -- none is
-  pub end : (i : ℕ) → i ≤ length xs → length xs ≤ i → i + place-of cmp x (drop i xs) ≡ place-of cmp x xs → length xs ≡ place-of cmp x xs
+  tested : (i : ℕ) (y : X) (b c : Bool) → Here i y b → b ≡ c → not-behind (cmp (getD xs i y) x) ≡ c
+  tested i y b c h e = ap (λ z. not-behind (cmp z x)) (sym (h .1)) ∙ sym (h .2) ∙ e
+
+  pub stop : (i : ℕ) (y : X) (b : Bool) → Here i y b → b ≡ false → Passed i → i ≡ place-of cmp x xs
+  stop i y b h e inv = omega (arith, inv, leading-drop-no (λ z. not-behind (cmp z x)) xs i y (h .0) (tested i y b false h e))
+
+  pub pass : (i : ℕ) (y : X) (b : Bool) → Here i y b → b ≡ true → Passed i → Passed (i + 1)
+  pass i y b h e inv = omega (arith, inv, leading-drop-yes (λ z. not-behind (cmp z x)) xs i y (h .0) (tested i y b true h e))
+
+  pub end : (i : ℕ) → i ≤ length xs → length xs ≤ i → Passed i → length xs ≡ place-of cmp x xs
   end i up to inv = omega (arith, inv, leading-drop-all (λ z. not-behind (cmp z x)) xs i to)
 
--- the line with a newcomer, by its place
-
-pub insert-is : {X : Type 0} (cmp : X → X → Standing) (x : X) (xs : List X) → insert cmp x xs ≡ inserted xs (place-of cmp x xs) x
-insert-is cmp x [] = refl
-insert-is cmp x (y ∷ ys) =
-    elim (not-behind (cmp y x)) as (λ b. cond b (y ∷ insert cmp x ys) (x ∷ (y ∷ ys)) ≡ inserted (y ∷ ys) (cond b (1 + place-of cmp x ys) 0) x) [
-      | true ↦ rw one-add (ap (λ zs. y ∷ zs) (insert-is cmp x ys))
-      | false ↦ refl
-    ]
-
-pub length-insert : {X : Type 0} (cmp : X → X → Standing) (x : X) (xs : List X) → length (insert cmp x xs) ≡ length xs + 1
-length-insert cmp x xs = ap length (insert-is cmp x xs) ∙ length-inserted xs (place-of cmp x xs) x (leading-le-length (λ y. not-behind (cmp y x)) xs)
-
-all-insert : {X : Type 0} (P : X → Type 0) (cmp : X → X → Standing) (x : X) (xs : List X) → P x → All P xs → All P (insert cmp x xs)
-all-insert P cmp x [] p ps = (p, tt)
-all-insert P cmp x (y ∷ ys) p ps =
-    elim (not-behind (cmp y x)) as (λ b. All P (cond b (y ∷ insert cmp x ys) (x ∷ (y ∷ ys)))) [
-      | true ↦ (ps .0, all-insert P cmp x ys p (ps .1))
-      | false ↦ (p, ps)
-    ]
+-- what holds of a newcomer and of all in line holds of the line with it
+all-inserted : {X : Type 0} (P : X → Type 0) (k : ℕ) (x : X) (xs : List X) → P x → All P xs → All P (inserted xs k x)
+all-inserted P k x xs p ps = all-append P (take k xs) (x ∷ drop k xs) (all-take P k xs ps) (p, all-drop P k xs ps)
 
 -- from the two laws
 module _ {S X : Type 0} (standing : S → X → X → Standing) (laws : Laws standing) (o : S) where
@@ -66,8 +52,8 @@ module _ {S X : Type 0} (standing : S → X → X → Standing) (laws : Laws sta
   insert-ordered x [] s = (tt, tt)
   insert-ordered x (y ∷ ys) s =
       let cmp = standing o in
-      cond-both (not-behind (cmp y x)) (y ∷ insert cmp x ys) (x ∷ (y ∷ ys)) (Ordered cmp)
-      (λ e. (all-insert (λ z. cmp y z ≡ Behind → ⊥) cmp x ys (isnt-behind (cmp y x) e) (s .0), insert-ordered x ys (s .1)))
+      cond-both (not-behind (cmp y x)) (1 + place-of cmp x ys) 0 (λ k. Ordered cmp (inserted (y ∷ ys) k x))
+      (λ e. rw one-add (all-inserted (λ z. cmp y z ≡ Behind → ⊥) (place-of cmp x ys) x ys (isnt-behind (cmp y x) e) (s .0), insert-ordered x ys (s .1)))
       (λ e.
       let first : cmp x y ≡ Behind → ⊥ = isnt-behind (cmp x y) (turned-not-behind (cmp y x) (cmp x y) (mirrored standing laws o y x) e) in
       ((first, all-weaker (λ z. cmp y z ≡ Behind → ⊥) (λ z. cmp x z ≡ Behind → ⊥) (λ z h. laws .chained o x y z first h) ys (s .0)), s))
@@ -78,11 +64,11 @@ module _ {S X : Type 0} (standing : S → X → X → Standing) (laws : Laws sta
       (λ z h. elim (cases-bool (not-behind (standing o z x))) [ inl t ↦ absurd (laws .chained o y z x h (isnt-behind (standing o z x) t) e) | inr f ↦ is-behind _ f ]) ys
 
   -- in a line in order, a newcomer comes behind all that are ahead of it or level with it, and before all others
-  pub parted : (x : X) (xs : List X) → Ordered (standing o) xs → Amid (standing o) x (place-of (standing o) x xs) xs
+  pub parted : (x : X) (xs : List X) → Ordered (standing o) xs → Amid (standing o) x xs
   parted x [] s = (tt, tt)
   parted x (y ∷ ys) s =
       let cmp = standing o in
-      cond-both (not-behind (cmp y x)) (1 + place-of cmp x ys) 0 (λ k. Amid cmp x k (y ∷ ys))
+      cond-both (not-behind (cmp y x)) (1 + place-of cmp x ys) 0 (λ k. All (λ z. cmp z x ≡ Behind → ⊥) (take k (y ∷ ys)) × All (λ z. cmp z x ≡ Behind) (drop k (y ∷ ys)))
       (λ e. let t = parted x ys (s .1) in rw one-add ((isnt-behind (cmp y x) e, t .0), t .1))
       (λ e. (tt, (is-behind _ e, all-behind x y ys (is-behind _ e) (s .0))))
 

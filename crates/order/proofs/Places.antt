@@ -4,21 +4,18 @@ use mathlib.Core.List.{List, [], _∷_, _++_, append-assoc}
 use mathlib.Core.Logic.{inl, inr}
 use Prim.Native.Nat.{ℕ, zero, suc, min, _+_, _-_, _<_, _≤_}
 use native.Mathlib.Numerals.{add-one}
-use mathlib.Core.Bool.{true, false}
 use native.Mathlib.Omega.{arith}
-use lib.Dec.{ltb}
-use lib.ListN.{length, take, drop, getD, set, length-drop, length-append}
+use lib.ListN.{length, take, drop, getD, set, length-drop}
 use lib.Seq.{paste}
 use Rattle.std.specs.shelf.Lists.{inserted, removed}
-use Rattle.std.specs.shelf.Maps.{nth}
 use Rattle.std.specs.Options.{Cases as BySome}
 use Rattle.std.specs.declared.option.Option.{Option}
 use Rattle.std.specs.declared.option.Option.the-variants.{Some, None}
 use Rattle.std.proofs.shelf.Maps.{nth-read, nth-past}
-use Rattle.std.proofs.shelf.Lists.{set-split, take-at, take-all, drop-all, append-nil, getD-take, length-take, take-append-le, take-take, drop-at, length-take-le}
+use Rattle.std.proofs.shelf.Lists.{set-split, take-at, take-all, drop-all, append-nil, length-take, take-append-le, take-take, drop-at, length-take-le}
 use Rattle.std.proofs.shelf.Edits.{length-paste, length-inserted, length-removed}
 use Rattle.std.proofs.shelf.Parts.{between-is}
-use Rattle.std.proofs.shelf.Tests.{cases-lt, lt-ltb, le-ltb}
+use Rattle.std.proofs.shelf.Tests.{cases-lt}
 use Rattle.order.specs.Lines.{laid, lined, at-place, without}
 use Rattle.order.specs.declared.line.Line.{Line}
 
@@ -36,15 +33,6 @@ take-min n xs = elim (cases-lt n (length xs)) [
   | inl h ↦ ap (λ m. take m xs) (omega arith)
   | inr h ↦ take-all (min n (length xs)) xs (omega arith) ∙ sym (take-all n xs h)
 ]
-
--- x comes into the first free place
-pub put-last : {X : Type 0} (xs : List X) (n : ℕ) (x : X) → n < length xs → set xs n x ≡ laid (take n xs ++ x ∷ []) xs
-put-last xs n x lt =
-    let count : length (take n xs) ≡ n = length-take-le n xs (omega arith) in
-    let more : length (take n xs ++ x ∷ []) ≡ suc n = length-append (take n xs) (x ∷ []) ∙ omega arith in
-    let cut : set xs n x ≡ take n xs ++ (x ∷ drop (suc n) xs) = set-split xs n x lt in
-    let joins : take n xs ++ x ∷ [] ++ drop (suc n) xs ≡ take n xs ++ (x ∷ drop (suc n) xs) = append-assoc (take n xs) (x ∷ []) (drop (suc n) xs) in
-    cc
 
 -- those from k on move up by one, and x comes into the gap
 pub opened : {X : Type 0} (xs : List X) (n k : ℕ) (x : X) → k ≤ n → n < length xs → set (paste xs (k + 1) (drop k xs) (n - k)) k x ≡ laid (inserted (take n xs) k x) xs
@@ -87,41 +75,24 @@ left xs n m (suc k) some le is =
     let e : suc k - 1 ≡ k = omega arith in
     rw e (closed xs n m k (omega arith) is)
 
--- reading a place of the line, and one past it
-
-pub read-at : {X : Type 0} (xs : List X) (n k : ℕ) (x : X) → k < n → k < length xs → x ≡ getD xs k x → Some x ≡ nth (take n xs) k
-read-at xs n k x in-line in-places read = sym (nth-read (take n xs) (length (take n xs)) k x refl (simp length-take (omega arith)) (read ∙ sym (getD-take n xs k x in-line)))
-
-pub read-past : {X : Type 0} (xs : List X) (n k : ℕ) → min n (length xs) ≤ k → None ≡ nth (take n xs) k
-read-past xs n k past = sym (nth-past (take n xs) k (simp length-take past))
-
-pub taken-out : {X : Type 0} (xs : List X) (n p : ℕ) (x : X) → 0 < p → p ≤ min n (length xs) → x ≡ getD xs (p - 1) x → Some x ≡ at-place p (take n xs)
-taken-out xs n zero x some le read = absurd (omega arith)
-taken-out xs n (suc k) x some le read =
+-- the one at a place
+pub read-at : {X : Type 0} (ys : List X) (p : ℕ) (x : X) → 0 < p → p ≤ length ys → x ≡ getD ys (p - 1) x → Some x ≡ at-place p ys
+read-at ys zero x some le read = absurd (omega arith)
+read-at ys (suc k) x some le read =
     let e : suc k - 1 ≡ k = omega arith in
-    read-at xs n k x (omega arith) (omega arith) (rw e at read)
+    sym (nth-read ys (length ys) k x refl (omega arith) (rw e at read))
 
--- no one stands at the place
-pub nobody : {X : Type 0} (xs : List X) (n p : ℕ) → min n (length xs) < p → (None ≡ at-place p (take n xs)) × (take n xs ≡ without p (take n xs))
-nobody xs n zero past = absurd (omega arith)
-nobody xs n (suc k) past =
-    let ys = take n xs in
-    let short : length ys ≤ k = simp length-take (omega arith) in
-    let same : removed ys k ≡ ys = (let a = take-all k ys short in let b = drop-all (suc k) ys (omega arith) in let e = append-nil ys in cc) in
-    (read-past xs n k (omega arith), sym same)
+-- no one stands at a place past the line
+pub nobody : {X : Type 0} (ys : List X) (p : ℕ) → length ys < p → (None ≡ at-place p ys) × (without p ys ≡ ys)
+nobody ys zero past = absurd (omega arith)
+nobody ys (suc k) past =
+    let short : length ys ≤ k = omega arith in
+    (sym (nth-past ys k short), (let a = take-all k ys short in let b = drop-all (suc k) ys (omega arith) in let e = append-nil ys in cc))
 
--- places count from 1
-pub no-place : {X : Type 0} (xs : List X) (n p : ℕ) → p ≡ 0 → (None ≡ at-place p (take n xs)) × (take n xs ≡ without p (take n xs))
-no-place xs n zero e = (refl, refl)
-no-place xs n (suc k) e = absurd (omega arith)
-
--- a line with a free place, and one without
-module _ {X : Type 0} (n : ℕ) (xs : List X) where
-  pub room : n < length xs → ltb (length (take n xs)) (length xs) ≡ true
-  room h = lt-ltb _ _ (simp length-take (omega arith))
-
-  pub full : length xs ≤ n → ltb (length (take n xs)) (length xs) ≡ false
-  full h = le-ltb _ _ (simp length-take (omega arith))
+-- nor at 0, since places count from 1
+pub no-place : {X : Type 0} (ys : List X) (p : ℕ) → p ≡ 0 → (None ≡ at-place p ys) × (without p ys ≡ ys)
+no-place ys zero e = (refl, refl)
+no-place ys (suc k) e = absurd (omega arith)
 
 -- a line that counts as many as before, or one more, over as many places: what had room with it still has
 pub fits-more : {X : Type 0} (line line′ : Line) (xs xs′ : List X) (r : Option ℕ) (n m : ℕ) → BySome r (line′ ≡ line) (λ _. line′ .len ≡ line .len + 1) → n + length (lined line xs) < m → length xs′ ≡ length xs → n + length (lined line′ xs′) ≤ m

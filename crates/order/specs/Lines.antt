@@ -13,7 +13,7 @@ use mathlib.Core.List.{List, [], _∷_, _++_}
 use Prim.Native.Nat.{ℕ, zero, suc, _+_}
 use lib.Dec.{ltb}
 use lib.ListN.{length, take, drop}
-use Rattle.std.specs.shelf.Lists.{leading, removed, All}
+use Rattle.std.specs.shelf.Lists.{leading, inserted, removed, All}
 use Rattle.std.specs.shelf.Maps.{nth}
 use Rattle.std.specs.declared.option.Option.{Option}
 use Rattle.std.specs.declared.option.Option.the-variants.{Some, None}
@@ -26,19 +26,18 @@ use Rattle.order.specs.declared.line.Line.{Line}
 abbrev pub place-of : {X : Type 0} → (X → X → Standing) → X → List X → ℕ
 place-of cmp x xs = leading (λ y. not-behind (cmp y x)) xs
 
--- x stands behind all that are ahead of it or level with it
+-- x stands there
 abbrev pub insert : {X : Type 0} → (X → X → Standing) → X → List X → List X
-insert cmp x [] = x ∷ []
-insert cmp x (y ∷ ys) = cond (not-behind (cmp y x)) (y ∷ insert cmp x ys) (x ∷ (y ∷ ys))
+insert cmp x xs = inserted xs (place-of cmp x xs) x
 
 -- no one is behind another that comes after it
 abbrev pub Ordered : {X : Type 0} → (X → X → Standing) → List X → Type 0
 Ordered cmp [] = Unit {0}
 Ordered cmp (x ∷ xs) = All (λ y. cmp x y ≡ Behind → ⊥) xs × Ordered cmp xs
 
--- the first k are ahead of x or level with it, and all others are behind it
-abbrev pub Amid : {X : Type 0} → (X → X → Standing) → X → ℕ → List X → Type 0
-Amid cmp x k xs = All (λ y. cmp y x ≡ Behind → ⊥) (take k xs) × All (λ y. cmp y x ≡ Behind) (drop k xs)
+-- those in front of the place of x are ahead of it or level with it, and all others are behind it
+abbrev pub Amid : {X : Type 0} → (X → X → Standing) → X → List X → Type 0
+Amid cmp x xs = All (λ y. cmp y x ≡ Behind → ⊥) (take (place-of cmp x xs) xs) × All (λ y. cmp y x ≡ Behind) (drop (place-of cmp x xs) xs)
 
 -- of n places the line leaves one free: x takes its place; else nothing changes
 abbrev pub joined : {X : Type 0} → ℕ → (X → X → Standing) → X → List X → List X
@@ -50,7 +49,7 @@ told n cmp x xs = cond (ltb (length xs) n) (Some (place-of cmp x xs + 1)) None
 
 -- of n places the line leaves one free: x stands last; else nothing changes
 abbrev pub appended : {X : Type 0} → ℕ → X → List X → List X
-appended n x xs = cond (ltb (length xs) n) (xs ++ x ∷ []) xs
+appended n x xs = cond (ltb (length xs) n) (inserted xs (length xs) x) xs
 
 -- the one at a place, counted from 1, if any
 abbrev pub at-place : {X : Type 0} → ℕ → List X → Option X

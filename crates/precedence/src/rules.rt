@@ -37,6 +37,6 @@ pub impl Ordering for Urgent as UrgentOrdering {
 
     fn compare(&self, a: &Ground, b: &Ground) -> Standing {
         let by_kind = higher_first(u32::from(a.kind.number()), u32::from(b.kind.number()));
-        by_kind.then(higher_first(u32::from(a.priority), u32::from(b.priority)))
+        by_kind.then(Plain.compare(a, b))
     }
 }
