@@ -3,6 +3,7 @@ ghost use mathlib.Core.Path.{_≡_};
 ghost use Prim.Native.Nat.{_≤_};
 ghost use lib.ListN.{length};
 ghost use denote.Ref.{name};
+ghost use Rattle.model.specs.Register.{blanked};
 use call::tables::Call;
 use model::acts::Reply;
 use model::events::Event;
@@ -23,6 +24,7 @@ impl<'a> Arbiter<'a> {
     // first `rows` rows are blank.
     pub fn open(settings: Settings, register: &'a mut [Row]) -> Arbiter<'a>
         requires { ⌜ settings .rows ≤ length (now register) ⌝ }
+        ensures rows { λ r. ⌜ now (r .register) ≡ blanked (settings .rows) (now (register .entry)) ⌝ }
         ensures same { λ r. ⌜ name (r .register) ≡ name (register .entry) ⌝ }
     {
         let call = Call::open(settings, register);

@@ -1,4 +1,6 @@
 // Opening a call: the clock at 0, nobody in, and the register's first rows blank.
+ghost use mathlib.Core.Path.{_≡_};
+ghost use Rattle.model.specs.Register.{blanked};
 use crate::tables::CLAIMS;
 use crate::tables::Call;
 use crate::tables::MEMBERS;
@@ -47,7 +49,9 @@ const NO_ALARM: Alarm = Alarm {
 };
 
 impl Call {
-    pub fn open(settings: Settings, register: &mut [Row]) -> Call {
+    pub fn open(settings: Settings, register: &mut [Row]) -> Call
+        ensures rows { λ _. ⌜ now (register .exit) ≡ blanked (settings .rows) (now (register .entry)) ⌝ }
+    {
         blank(register, usize::from(settings.rows));
         Call {
             settings,
@@ -66,7 +70,9 @@ impl Call {
 }
 
 // Makes the first rows blank.
-fn blank(register: &mut [Row], rows: usize) {
+fn blank(register: &mut [Row], rows: usize)
+    ensures rows { λ _. ⌜ now (register .exit) ≡ blanked rows (now (register .entry)) ⌝ }
+{
     for i in 0..rows.min(register.len()) {
         register[i] = BLANK_ROW;
     }

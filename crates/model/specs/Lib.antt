@@ -4,3 +4,4 @@ pub mod Refusals
 pub mod Acts
 pub mod Settings
 pub mod Tables
+pub mod Register

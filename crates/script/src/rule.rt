@@ -44,7 +44,15 @@ pub fn sixteenths() -> GradeTable
 {
     let mut grades = [0; 256];
     for i in 0..256usize {
-        grades[i] = (i / 16) as u8;
+        grades[i] = sixteenth(i);
     }
     GradeTable { grades }
+}
+
+// The whole part of the sixteenth.
+fn sixteenth(priority: usize) -> u8
+    requires { ⌜ priority < 256 ⌝ }
+    ensures value { λ r. ⌜ r ≡ priority / 16 ⌝ }
+{
+    (priority / 16) as u8
 }

@@ -12,5 +12,5 @@ loop-i-again c = (
   length-set _ _ _ ∙ c .loop-i .inv .0,
   below-more _ _
       (λ k h. let ne : k ≢ c .loop-i .i = omega arith in rw getD-set-other (c .loop-i .inv .1 k h))
-      (let lt : c .loop-i .i < length (c .loop-i .grades) = omega (arith, c .loop-i .inv .0) in rw getD-set-same),
+      (let lt : c .loop-i .i < length (c .loop-i .grades) = omega (arith, c .loop-i .inv .0) in rw getD-set-same (c .sixteenth .ensures .value)),
 )
