@@ -1,5 +1,5 @@
 -- A newcomer's place, and what the two laws make of it.
-use mathlib.Core.Path.{_≡_, refl, sym, ap, _∙_}
+use mathlib.Core.Path.{_≡_, refl, sym, ap, subst, _∙_}
 use mathlib.Core.Bool.{Bool, true, false, cond}
 use mathlib.Core.List.{List, [], _∷_, _++_}
 use mathlib.Core.Logic.{inl, inr}
@@ -48,7 +48,7 @@ all-inserted P k x xs p ps = all-append P (take k xs) (x ∷ drop k xs) (all-tak
 -- from the two laws
 module _ {S X : Type 0} (standing : S → X → X → Standing) (laws : Laws standing) (o : S) where
   -- a newcomer leaves a line in order
-  pub insert-ordered : (x : X) (xs : List X) → Ordered (standing o) xs → Ordered (standing o) (insert (standing o) x xs)
+  insert-ordered : (x : X) (xs : List X) → Ordered (standing o) xs → Ordered (standing o) (insert (standing o) x xs)
   insert-ordered x [] s = (tt, tt)
   insert-ordered x (y ∷ ys) s =
       let cmp = standing o in
@@ -64,13 +64,20 @@ module _ {S X : Type 0} (standing : S → X → X → Standing) (laws : Laws sta
       (λ z h. elim (cases-bool (not-behind (standing o z x))) [ inl t ↦ absurd (laws .chained o y z x h (isnt-behind (standing o z x) t) e) | inr f ↦ is-behind _ f ]) ys
 
   -- in a line in order, a newcomer comes behind all that are ahead of it or level with it, and before all others
-  pub parted : (x : X) (xs : List X) → Ordered (standing o) xs → Amid (standing o) x xs
+  parted : (x : X) (xs : List X) → Ordered (standing o) xs → Amid (standing o) x (place-of (standing o) x xs) xs
   parted x [] s = (tt, tt)
   parted x (y ∷ ys) s =
       let cmp = standing o in
-      cond-both (not-behind (cmp y x)) (1 + place-of cmp x ys) 0 (λ k. All (λ z. cmp z x ≡ Behind → ⊥) (take k (y ∷ ys)) × All (λ z. cmp z x ≡ Behind) (drop k (y ∷ ys)))
+      cond-both (not-behind (cmp y x)) (1 + place-of cmp x ys) 0 (λ k. Amid cmp x k (y ∷ ys))
       (λ e. let t = parted x ys (s .1) in rw one-add ((isnt-behind (cmp y x) e, t .0), t .1))
       (λ e. (tt, (is-behind _ e, all-behind x y ys (is-behind _ e) (s .0))))
+
+  -- both, at a place that is found
+  pub placed : (x : X) (xs : List X) (k : ℕ) → k ≡ place-of (standing o) x xs → (Ordered (standing o) xs → Ordered (standing o) (inserted xs k x)) × (Ordered (standing o) xs → Amid (standing o) x k xs)
+  placed x xs k e = (
+    λ s. subst (λ j. Ordered (standing o) (inserted xs j x)) (sym e) (insert-ordered x xs s),
+    λ s. subst (λ j. Amid (standing o) x j xs) (sym e) (parted x xs s),
+  )
 
 -- a line stays in order without one of it
 

@@ -35,9 +35,9 @@ abbrev pub Ordered : {X : Type 0} → (X → X → Standing) → List X → Type
 Ordered cmp [] = Unit {0}
 Ordered cmp (x ∷ xs) = All (λ y. cmp x y ≡ Behind → ⊥) xs × Ordered cmp xs
 
--- those in front of the place of x are ahead of it or level with it, and all others are behind it
-abbrev pub Amid : {X : Type 0} → (X → X → Standing) → X → List X → Type 0
-Amid cmp x xs = All (λ y. cmp y x ≡ Behind → ⊥) (take (place-of cmp x xs) xs) × All (λ y. cmp y x ≡ Behind) (drop (place-of cmp x xs) xs)
+-- the first k are ahead of x or level with it, and all others are behind it
+abbrev pub Amid : {X : Type 0} → (X → X → Standing) → X → ℕ → List X → Type 0
+Amid cmp x k xs = All (λ y. cmp y x ≡ Behind → ⊥) (take k xs) × All (λ y. cmp y x ≡ Behind) (drop k xs)
 
 -- of n places the line leaves one free: x takes its place; else nothing changes
 abbrev pub joined : {X : Type 0} → ℕ → (X → X → Standing) → X → List X → List X

@@ -1,6 +1,6 @@
 // A line of things of one kind, kept in the first places of a slice that is lent at each call.
 ghost use mathlib.Core.Path.{_≡_};
-ghost use Prim.Native.Nat.{_+_, _<_, _≤_};
+ghost use Prim.Native.Nat.{_+_, _-_, _<_, _≤_};
 ghost use lib.Dec.{ltb};
 ghost use lib.ListN.{length, take};
 ghost use Rattle.std.specs.Options.{Cases as BySome};
@@ -50,7 +50,7 @@ impl Line {
         ensures slots { λ _. ⌜ now (places .exit) ≡ laid (joined (length (now (places .entry))) (O·Ordering .standing (now (order .entry))) item (lined (now (self .entry)) (now (places .entry)))) (now (places .entry)) ⌝ }
         ensures count { λ r. ⌜ BySome r (now (self .exit) ≡ now (self .entry)) (λ _. now (self .exit) .len ≡ now (self .entry) .len + 1) ⌝ }
         ensures ordered { λ _. ⌜ (Ordered (O·Ordering .standing (now (order .entry))) (lined (now (self .entry)) (now (places .entry))) → Ordered (O·Ordering .standing (now (order .entry))) (lined (now (self .exit)) (now (places .exit)))) ⌝ }
-        ensures amid { λ _. ⌜ (Ordered (O·Ordering .standing (now (order .entry))) (lined (now (self .entry)) (now (places .entry))) → Amid (O·Ordering .standing (now (order .entry))) item (lined (now (self .entry)) (now (places .entry)))) ⌝ }
+        ensures amid { λ r. ⌜ (Ordered (O·Ordering .standing (now (order .entry))) (lined (now (self .entry)) (now (places .entry))) → BySome r (Unit {0}) (λ place. Amid (O·Ordering .standing (now (order .entry))) item (place - 1) (lined (now (self .entry)) (now (places .entry))))) ⌝ }
     {
         let line = self.all(places);
         let place = place_for(line, order, &item);
@@ -155,7 +155,7 @@ fn place_for<O: Ordering>(line: &[O::Item], order: &O, item: &O::Item) -> usize
     ensures within { λ r. ⌜ r ≤ length (now (line .entry)) ⌝ }
     ensures place { λ r. ⌜ r ≡ place-of (O·Ordering .standing (now (order .entry))) (now (item .entry)) (now (line .entry)) ⌝ }
     ensures ordered { λ r. ⌜ (Ordered (O·Ordering .standing (now (order .entry))) (now (line .entry)) → Ordered (O·Ordering .standing (now (order .entry))) (inserted (now (line .entry)) r (now (item .entry)))) ⌝ }
-    ensures amid { λ _. ⌜ (Ordered (O·Ordering .standing (now (order .entry))) (now (line .entry)) → Amid (O·Ordering .standing (now (order .entry))) (now (item .entry)) (now (line .entry))) ⌝ }
+    ensures amid { λ r. ⌜ (Ordered (O·Ordering .standing (now (order .entry))) (now (line .entry)) → Amid (O·Ordering .standing (now (order .entry))) (now (item .entry)) r (now (line .entry))) ⌝ }
 {
     for (i, other) in line.iter().enumerate() {
         if !keeps_ahead(order, other, item) {
