@@ -5,7 +5,7 @@ use model::acts::Reply;
 use model::causes::RejectCause;
 use model::refusals::Refusal;
 
-// The answer to any event but a clock call that stopped.
+// The answer to any event but a clock that stopped at an alarm.
 pub(crate) fn accepted(acts: Acts) -> Result<Reply, Refusal> {
     Ok(Reply { more: false, acts })
 }

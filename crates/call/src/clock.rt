@@ -24,7 +24,7 @@ impl Call {
         if to > LAST_SECOND {
             return Err(Refusal::ClockBeyond);
         }
-        match self.timers.first(&self.alarms) {
+        match self.alarm_line.first(&self.alarms) {
             Some(alarm) if alarm.due <= to => self.stop_at(register, alarm),
             Some(_) | None => self.reach(to),
         }
@@ -48,7 +48,7 @@ impl Call {
     // A talk alarm recalls, a grace alarm ends.
     fn ring(&mut self, register: &mut [Row], alarm: Alarm) -> Acts {
         match place_of_first(
-            self.running.all(&self.open),
+            self.open_line.all(&self.open),
             &IsNumbered {
                 number: alarm.grant,
             },
@@ -62,6 +62,7 @@ impl Call {
                     AlarmKind::Grace => self.end(register, transmission, EndCause::TimeOut),
                 }
             }
+            // No run comes here: every alarm is of an open transmission.
             None => {
                 self.drop_alarm(alarm.grant);
                 Acts::Zero

@@ -60,7 +60,7 @@ impl Call {
             return Err(Refusal::NotInCall);
         };
         let state = self.state_of(camera);
-        self.act(register, rule, Sender { camera, place }, state, event)
+        self.by_state(register, rule, Sender { camera, place }, state, event)
     }
 
     // A request, which has to be of a kind, and of a camera that may transmit.
@@ -83,7 +83,7 @@ impl Call {
             Class::MayTransmit => {
                 let state = self.state_of(camera);
                 let ground = Ground { kind, priority };
-                self.act(
+                self.by_state(
                     register,
                     rule,
                     Sender { camera, place },
@@ -95,7 +95,7 @@ impl Call {
     }
 
     // What a camera's event does, by its state and the event together.
-    fn act<R: Ordering<Item = Ground>>(
+    fn by_state<R: Ordering<Item = Ground>>(
         &mut self,
         register: &mut [Row],
         rule: &R,
@@ -103,52 +103,37 @@ impl Call {
         state: State,
         event: CameraEvent,
     ) -> Result<Reply, Refusal> {
-        let camera = sender.camera;
         match (state, event) {
-            (State::Idle, CameraEvent::Request { ground }) => self.ask(
-                register,
-                rule,
-                camera,
-                ground,
-            ),
-            (State::Waiting { place }, CameraEvent::Request { .. }) => queued(camera, place),
-            (State::Standing { transmission }, CameraEvent::Request { .. }) => self.resend(
-                transmission,
-            ),
-            (State::Recalled { cause, .. }, CameraEvent::Request { .. }) => rejected(
-                camera,
-                RejectCause::Recalled { cause },
-            ),
+            (State::Idle, CameraEvent::Request { ground }) => {
+                self.ask(register, rule, sender.camera, ground)
+            }
+            (State::Waiting { place }, CameraEvent::Request { .. } | CameraEvent::Position) => {
+                queued(sender.camera, place)
+            }
+            (State::Standing { transmission }, CameraEvent::Request { .. }) => {
+                self.resend(transmission)
+            }
+            (State::Recalled { cause, .. }, CameraEvent::Request { .. }) => {
+                rejected(sender.camera, RejectCause::Recalled { cause })
+            }
             (State::Idle, CameraEvent::Leave) => self.leave_idle(sender),
             (State::Waiting { place }, CameraEvent::Leave) => self.leave_waiting(sender, place),
-            (State::Standing { transmission }, CameraEvent::Leave) => self.leave_open(
-                register,
-                sender,
-                transmission,
-            ),
-            (State::Recalled { transmission, .. }, CameraEvent::Leave) => self.leave_open(
-                register,
-                sender,
-                transmission,
-            ),
-            (State::Idle, CameraEvent::Release) => Err(Refusal::NothingOpen),
-            (State::Waiting { .. }, CameraEvent::Release) => Err(Refusal::NothingOpen),
-            (State::Standing { transmission }, CameraEvent::Release) => self.release(
-                register,
-                transmission,
-            ),
-            (State::Recalled { transmission, .. }, CameraEvent::Release) => self.release(
-                register,
-                transmission,
-            ),
-            (State::Idle, CameraEvent::Cancel) => Err(Refusal::NotWaiting),
-            (State::Waiting { place }, CameraEvent::Cancel) => self.cancel(camera, place),
-            (State::Standing { .. }, CameraEvent::Cancel) => Err(Refusal::NotWaiting),
-            (State::Recalled { .. }, CameraEvent::Cancel) => Err(Refusal::NotWaiting),
-            (State::Idle, CameraEvent::Position) => Err(Refusal::NotWaiting),
-            (State::Waiting { place }, CameraEvent::Position) => queued(camera, place),
-            (State::Standing { .. }, CameraEvent::Position) => Err(Refusal::NotWaiting),
-            (State::Recalled { .. }, CameraEvent::Position) => Err(Refusal::NotWaiting),
+            (
+                State::Standing { transmission } | State::Recalled { transmission, .. },
+                CameraEvent::Leave,
+            ) => self.leave_open(register, sender, transmission),
+            (
+                State::Standing { transmission } | State::Recalled { transmission, .. },
+                CameraEvent::Release,
+            ) => self.release(register, transmission),
+            (State::Idle | State::Waiting { .. }, CameraEvent::Release) => {
+                Err(Refusal::NothingOpen)
+            }
+            (State::Waiting { place }, CameraEvent::Cancel) => self.cancel(sender.camera, place),
+            (
+                State::Idle | State::Standing { .. } | State::Recalled { .. },
+                CameraEvent::Cancel | CameraEvent::Position,
+            ) => Err(Refusal::NotWaiting),
         }
     }
 }

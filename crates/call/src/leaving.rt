@@ -13,7 +13,7 @@ use model::tables::Transmission;
 
 impl Call {
     pub(crate) fn leave_idle(&mut self, sender: Sender) -> Result<Reply, Refusal> {
-        self.roll.remove(&mut self.members, sender.place);
+        self.member_line.remove(&mut self.members, sender.place);
         accepted(Acts::Zero)
     }
 
@@ -30,7 +30,7 @@ impl Call {
         transmission: Transmission,
     ) -> Result<Reply, Refusal> {
         let acts = self.end(register, transmission, EndCause::Leave);
-        self.roll.remove(&mut self.members, sender.place);
+        self.member_line.remove(&mut self.members, sender.place);
         accepted(acts)
     }
 
@@ -49,6 +49,6 @@ impl Call {
 
     // Takes the claim at the place out of the line.
     fn drop_claim(&mut self, place: u8) {
-        self.queue.remove(&mut self.claims, usize::from(place));
+        self.claim_line.remove(&mut self.claims, usize::from(place));
     }
 }

@@ -30,7 +30,7 @@ impl Call {
         if camera == 0 || camera == self.settings.server || self.place_of(camera).is_some() {
             return Err(Refusal::BadJoin);
         }
-        if self.roll
+        if self.member_line
             .append(&mut self.members, Member { camera, class }) {
             accepted(Acts::Zero)
         } else {
@@ -40,14 +40,14 @@ impl Call {
 
     // The camera's place among the members, from 1.
     pub(crate) fn place_of(&self, camera: u32) -> Option<usize>
-        ensures place { λ r. ⌜ r ≡ place-of-first (λ m. eqb (m .camera) camera) (lined (now (self .entry) .roll) (now (self .entry) .members)) ⌝ }
+        ensures place { λ r. ⌜ r ≡ place-of-first (λ m. eqb (m .camera) camera) (lined (now (self .entry) .«member_line») (now (self .entry) .members)) ⌝ }
         ensures within { λ r. ⌜ BySome r (Unit {0}) (λ place. (0 < place) × (place ≤ 64)) ⌝ }
     {
-        place_of_first(self.roll.all(&self.members), &IsMember { camera })
+        place_of_first(self.member_line.all(&self.members), &IsMember { camera })
     }
 
     pub(crate) fn state_of(&self, camera: u32) -> State {
-        match place_of_first(self.running.all(&self.open), &IsTransmissionOf { camera }) {
+        match place_of_first(self.open_line.all(&self.open), &IsTransmissionOf { camera }) {
             Some(place) => {
                 let transmission = self.open[place - 1];
                 match transmission.phase {
@@ -58,7 +58,7 @@ impl Call {
                     },
                 }
             }
-            None => match place_of_first(self.queue.all(&self.claims), &IsClaimOf { camera }) {
+            None => match place_of_first(self.claim_line.all(&self.claims), &IsClaimOf { camera }) {
                 Some(place) => State::Waiting { place: place as u8 },
                 None => State::Idle,
             },

@@ -57,19 +57,18 @@ impl Call {
             settings,
             clock: 0,
             members: [NO_MEMBER; MEMBERS],
-            roll: Line::new(),
+            member_line: Line::new(),
             open: [NO_TRANSMISSION; OPEN],
-            running: Line::new(),
+            open_line: Line::new(),
             claims: [NO_CLAIM; CLAIMS],
-            queue: Line::new(),
+            claim_line: Line::new(),
             alarms: [NO_ALARM; OPEN],
-            timers: Line::new(),
-            granted: 0,
+            alarm_line: Line::new(),
+            grants: 0,
         }
     }
 }
 
-// Makes the first rows blank.
 fn blank(register: &mut [Row], rows: usize)
     ensures rows { λ _. ⌜ now (register .exit) ≡ blanked rows (now (register .entry)) ⌝ }
 {

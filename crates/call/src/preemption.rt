@@ -12,9 +12,9 @@ impl Call {
     // With r transmissions under recall, the claim at place r + 1 is the first that no recall serves yet. If it is
     // ahead of some standing transmission, the last in precedence is recalled.
     pub(crate) fn preempt<R: Ordering<Item = Ground>>(&mut self, rule: &R) -> Option<Act> {
-        let open = self.running.all(&self.open);
-        let line = self.queue.all(&self.claims);
-        let served = recalled(open);
+        let open = self.open_line.all(&self.open);
+        let line = self.claim_line.all(&self.claims);
+        let served = count_recalled(open);
         if served >= line.len() {
             return None;
         }
@@ -30,7 +30,7 @@ impl Call {
 }
 
 // How many are under recall.
-fn recalled(open: &[Transmission]) -> usize {
+fn count_recalled(open: &[Transmission]) -> usize {
     let mut count = 0;
     for transmission in open {
         if let Phase::Recalled { .. } = transmission.phase {

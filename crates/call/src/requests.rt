@@ -33,11 +33,11 @@ impl Call {
         camera: u32,
         ground: Ground,
     ) -> Result<Reply, Refusal> {
-        let waiting = self.queue.all(&self.claims).len();
-        if usize::from(self.granted) + waiting == usize::from(self.settings.rows) {
+        let waiting = self.claim_line.all(&self.claims).len();
+        if usize::from(self.grants) + waiting == usize::from(self.settings.rows) {
             return rejected(camera, RejectCause::NoRow);
         }
-        if self.running.all(&self.open).len() < usize::from(self.settings.limit) {
+        if self.open_line.all(&self.open).len() < usize::from(self.settings.limit) {
             let granted = self.grant(register, camera, ground);
             return accepted(Acts::Two {
                 first: self.grant_act(granted),
@@ -49,10 +49,10 @@ impl Call {
 
     // The claim joins the line, unless it is full.
     fn wait<R: Ordering<Item = Ground>>(&mut self, rule: &R, claim: Claim) -> Result<Reply, Refusal>
-        requires { ⌜ now self .granted + length (lined (now self .queue) (now self .claims)) < now self .settings .rows ⌝ }
+        requires { ⌜ now self .grants + length (lined (now self .«claim_line») (now self .claims)) < now self .settings .rows ⌝ }
     {
         let places = usize::from(self.settings.line);
-        match self.queue
+        match self.claim_line
             .join(&mut self.claims[0..places], &ByGround { rule }, claim) {
             None => rejected(claim.camera, RejectCause::LineFull),
             Some(place) => {
@@ -83,8 +83,9 @@ impl Call {
 
     // How many seconds a standing transmission has left.
     fn seconds_left(&self, grant: u16) -> u32 {
-        match place_of_first(self.timers.all(&self.alarms), &IsAlarmOf { grant }) {
+        match place_of_first(self.alarm_line.all(&self.alarms), &IsAlarmOf { grant }) {
             Some(place) => self.alarms[place - 1].due.saturating_sub(self.clock),
+            // No run comes here: every open transmission has its alarm.
             None => 0,
         }
     }

@@ -18,24 +18,24 @@ pub const CLAIMS: usize = 32;
 // The last second that a clock may reach.
 pub const LAST_SECOND: u32 = 4_000_000_000;
 
-#[derive(Clone, Copy)]
+#[derive(Drop)]
 pub struct Call {
     pub(crate) settings: Settings,
     pub(crate) clock: u32,
     // The cameras in the call, in joining order.
     pub(crate) members: [Member; MEMBERS],
-    pub(crate) roll: Line,
+    pub(crate) member_line: Line,
     // The open transmissions, in the order of their grants.
     pub(crate) open: [Transmission; OPEN],
-    pub(crate) running: Line,
+    pub(crate) open_line: Line,
     // The claims, by precedence.
     pub(crate) claims: [Claim; CLAIMS],
-    pub(crate) queue: Line,
+    pub(crate) claim_line: Line,
     // An alarm for each open transmission, by due second.
     pub(crate) alarms: [Alarm; OPEN],
-    pub(crate) timers: Line,
+    pub(crate) alarm_line: Line,
     // How many grants were given.
-    pub(crate) granted: u16,
+    pub(crate) grants: u16,
     ghost in_time: { clock ≤ 4000000000 },
-    ghost rows_left: { granted + length (lined queue claims) ≤ settings .rows },
+    ghost rows_left: { grants + length (lined «claim_line» claims) ≤ settings .rows },
 }

@@ -23,7 +23,7 @@ use precedence::grounds::Ground;
 
 // A grant just given.
 #[derive(Clone, Copy)]
-pub struct Granted {
+pub(crate) struct Granted {
     pub number: u16,
     pub camera: u32,
 }
@@ -31,10 +31,10 @@ pub struct Granted {
 impl Call {
     // Opens the next row and sets a talk alarm.
     pub(crate) fn grant(&mut self, register: &mut [Row], camera: u32, ground: Ground) -> Granted
-        requires { ⌜ now self .granted + length (lined (now self .queue) (now self .claims)) < now self .settings .rows ⌝ }
+        requires { ⌜ now self .grants + length (lined (now self .«claim_line») (now self .claims)) < now self .settings .rows ⌝ }
     {
-        let number = self.granted + 1;
-        let row = usize::from(self.granted);
+        let number = self.grants + 1;
+        let row = usize::from(self.grants);
         if row < register.len() {
             register[row] = Row {
                 camera,
@@ -44,8 +44,8 @@ impl Call {
                 cause: EndCause::NotEnded,
             };
         }
-        self.granted = number;
-        self.running.append(
+        self.grants = number;
+        self.open_line.append(
             &mut self.open,
             Transmission {
                 number,
@@ -60,10 +60,10 @@ impl Call {
 
     // If a claim waits, the first leaves the line and is granted.
     fn promote(&mut self, register: &mut [Row]) -> Option<Granted> {
-        match self.queue.first(&self.claims) {
+        match self.claim_line.first(&self.claims) {
             None => None,
             Some(claim) => {
-                self.queue.remove(&mut self.claims, 1);
+                self.claim_line.remove(&mut self.claims, 1);
                 Some(self.grant(register, claim.camera, claim.ground))
             }
         }
@@ -78,8 +78,11 @@ impl Call {
     ) -> Acts {
         let number = transmission.number;
         close(register, number, self.clock, cause);
-        if let Some(place) = place_of_first(self.running.all(&self.open), &IsNumbered { number }) {
-            self.running.remove(&mut self.open, place);
+        if let Some(place) = place_of_first(
+            self.open_line.all(&self.open),
+            &IsNumbered { number },
+        ) {
+            self.open_line.remove(&mut self.open, place);
         }
         self.drop_alarm(number);
         let ended = Act::Ended {
@@ -100,7 +103,10 @@ impl Call {
     // Puts a grace alarm in the place of the talk alarm.
     pub(crate) fn recall(&mut self, transmission: Transmission, cause: RecallCause) -> Act {
         let number = transmission.number;
-        if let Some(place) = place_of_first(self.running.all(&self.open), &IsNumbered { number }) {
+        if let Some(place) = place_of_first(
+            self.open_line.all(&self.open),
+            &IsNumbered { number },
+        ) {
             self.open[place - 1].phase = Phase::Recalled { cause };
         }
         self.drop_alarm(number);
@@ -115,13 +121,16 @@ impl Call {
     // Sets an alarm so many seconds on.
     fn set_alarm(&mut self, grant: u16, kind: AlarmKind, seconds: u16) {
         let due = self.clock + u32::from(seconds);
-        self.timers
+        self.alarm_line
             .join(&mut self.alarms, &ByDue, Alarm { due, grant, kind });
     }
 
     pub(crate) fn drop_alarm(&mut self, grant: u16) {
-        if let Some(place) = place_of_first(self.timers.all(&self.alarms), &IsAlarmOf { grant }) {
-            self.timers.remove(&mut self.alarms, place);
+        if let Some(place) = place_of_first(
+            self.alarm_line.all(&self.alarms),
+            &IsAlarmOf { grant },
+        ) {
+            self.alarm_line.remove(&mut self.alarms, place);
         }
     }
 

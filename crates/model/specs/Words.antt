@@ -1,5 +1,5 @@
 -- Words on lists: the first that passes a test. Cited by `lookup`.
-use mathlib.Core.Bool.{Bool, true, false, cond, _||_}
+use mathlib.Core.Bool.{Bool, false, cond, _||_}
 use mathlib.Core.List.{List, [], _∷_}
 use Prim.Native.Nat.{ℕ, _+_}
 use Rattle.std.specs.declared.option.Option.{Option}

@@ -1,4 +1,4 @@
-// Acts: what an accepted event has the call tell its cameras. An event makes at most three, in order.
+// Acts: what an accepted event makes, for the cameras to be told or for the register. At most three, in order.
 ghost use mathlib.Core.Path.{_≡_};
 ghost use lib.ListN.{length};
 ghost use Rattle.std.specs.shelf.Maps.{nth};
@@ -151,7 +151,7 @@ impl Acts {
 // The answer to an accepted event.
 #[derive(Clone, Copy)]
 pub struct Reply {
-    // A clock call stopped at an alarm: it is to be made again.
+    // The clock stopped at an alarm, before the second that it was to reach.
     pub more: bool,
     pub acts: Acts,
 }

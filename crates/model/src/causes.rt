@@ -51,7 +51,6 @@ pub enum RejectCause {
     ReceiveOnly,
     // Every row of the register is granted or waited for.
     NoRow,
-    // The line is full.
     LineFull,
 }
 

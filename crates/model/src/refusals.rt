@@ -1,4 +1,4 @@
-// Why a call is refused; each refusal has its number.
+// Why an event or an opening is refused; each refusal has its number.
 ghost use mathlib.Core.Path.{_≡_};
 ghost use Rattle.model.specs.Refusals.{refusal-number};
 

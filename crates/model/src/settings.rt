@@ -14,7 +14,6 @@ pub struct Wanted {
     pub grace: u16,
     // How many rows of the register the call may grant.
     pub rows: u16,
-    // The server's SSRC.
     pub server: u32,
 }
 

@@ -1,14 +1,12 @@
 -- A line as a list, the first at its head, and the slice whose first places hold it. Cited by the methods of `Line`.
 --
--- place-of   how many stand in front of a newcomer
--- insert     the line with a newcomer in its place
--- Ordered    each one is not behind those that come after it
--- Amid       who stands in front of a newcomer, and who behind it
--- joined, told            the line after a newcomer, and what the newcomer is told
+-- place-of, insert        how many stand in front of a newcomer, and the line with it there
+-- Ordered, Amid           a line in order, and who stands in front of a newcomer and who behind it
+-- joined, told, appended  the line after a newcomer, what the newcomer is told, and the line after one that stands last
 -- at-place, without       the one at a place, and the line without it
 -- lined, laid             the line that a slice holds, and the slice with a line laid over its first places
 use mathlib.Core.Path.{_≡_}
-use mathlib.Core.Bool.{cond, true}
+use mathlib.Core.Bool.{cond}
 use mathlib.Core.List.{List, [], _∷_, _++_}
 use Prim.Native.Nat.{ℕ, zero, suc, _+_}
 use lib.Dec.{ltb}

@@ -18,7 +18,6 @@ pub struct Line {
 }
 
 impl Line {
-    // An empty line.
     pub fn new() -> Line
         ensures empty { λ r. ⌜ r .len ≡ 0 ⌝ }
     {

@@ -1,5 +1,4 @@
 -- How two grounds stand to one another under each rule, and two alarms. Cited by the rules' `standing`.
-use Prim.Native.Nat.{ℕ}
 use lib.ListN.{getD}
 use Rattle.order.specs.Standings.{higher-first, lower-first, in-turn}
 use Rattle.order.specs.declared.standing.Standing.{Standing}

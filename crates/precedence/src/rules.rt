@@ -1,5 +1,4 @@
 // Precedence rules, which are orderings of grounds.
-ghost use mathlib.Core.Path.{_≡_};
 ghost use Rattle.order.proofs.Orderings.{by-higher, by-turns};
 ghost use Rattle.precedence.specs.Grounds.{kind-number};
 ghost use Rattle.precedence.specs.Rules.{by-priority, by-kind};

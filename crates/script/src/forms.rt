@@ -11,12 +11,12 @@ use precedence::rules::Urgent;
 
 // The server's SSRC in every listing.
 const SERVER: u32 = 1;
-// The largest number of 8, 16 and 32 bits.
-const OCTET: u32 = 255;
+// The largest number of 8 bits, of 16 and of 32.
+const MOST_8: u32 = 255;
 
-const TWO_OCTETS: u32 = 65_535;
+const MOST_16: u32 = 65_535;
 
-const FOUR_OCTETS: u32 = 4_294_967_295;
+const MOST_32: u32 = 4_294_967_295;
 
 // Opens a call with these settings under this rule.
 #[derive(Clone, Copy)]
@@ -26,11 +26,11 @@ pub struct Opening {
 }
 
 pub fn read_opening(line: &[u8]) -> Option<Opening> {
-    let limit = read_pair(line, b"do=open limit=", OCTET)?;
-    let queue = read_pair(limit.rest, b" line=", OCTET)?;
-    let talk = read_pair(queue.rest, b" talk=", TWO_OCTETS)?;
-    let grace = read_pair(talk.rest, b" grace=", TWO_OCTETS)?;
-    let rows = read_pair(grace.rest, b" rows=", TWO_OCTETS)?;
+    let limit = read_pair(line, b"do=open limit=", MOST_8)?;
+    let queue = read_pair(limit.rest, b" line=", MOST_8)?;
+    let talk = read_pair(queue.rest, b" talk=", MOST_16)?;
+    let grace = read_pair(talk.rest, b" grace=", MOST_16)?;
+    let rows = read_pair(grace.rest, b" rows=", MOST_16)?;
     let rule = read_rule(after(rows.rest, b" rule=")?)?;
     let wanted = Wanted {
         limit: limit.value as u8,
@@ -80,7 +80,7 @@ pub fn read_event(line: &[u8]) -> Option<Event> {
 
 // One number of 32 bits, and the end of the line.
 fn read_alone(rest: &[u8], key: &[u8]) -> Option<u32> {
-    let number = read_pair(rest, key, FOUR_OCTETS)?;
+    let number = read_pair(rest, key, MOST_32)?;
     if number.rest.len() != 0 {
         return None;
     }
@@ -88,8 +88,8 @@ fn read_alone(rest: &[u8], key: &[u8]) -> Option<u32> {
 }
 
 fn read_join(rest: &[u8]) -> Option<Event> {
-    let camera = read_pair(rest, b"join cam=", FOUR_OCTETS)?;
-    let class = read_pair(camera.rest, b" class=", OCTET)?;
+    let camera = read_pair(rest, b"join cam=", MOST_32)?;
+    let class = read_pair(camera.rest, b" class=", MOST_8)?;
     if class.rest.len() != 0 {
         return None;
     }
@@ -100,9 +100,9 @@ fn read_join(rest: &[u8]) -> Option<Event> {
 }
 
 fn read_request(rest: &[u8]) -> Option<Event> {
-    let camera = read_pair(rest, b"request cam=", FOUR_OCTETS)?;
-    let kind = read_pair(camera.rest, b" kind=", OCTET)?;
-    let priority = read_pair(kind.rest, b" prio=", OCTET)?;
+    let camera = read_pair(rest, b"request cam=", MOST_32)?;
+    let kind = read_pair(camera.rest, b" kind=", MOST_8)?;
+    let priority = read_pair(kind.rest, b" prio=", MOST_8)?;
     if priority.rest.len() != 0 {
         return None;
     }

@@ -4,7 +4,7 @@ ghost use lib.ListN.{length};
 ghost use Rattle.std.specs.Options.{Cases as BySome};
 
 // How many octets of a script count.
-pub const MOST: usize = 32_768;
+pub const MAX_OCTETS: usize = 32_768;
 
 // What is left of a script, and the number of the line that was taken last.
 #[derive(Drop)]
@@ -23,7 +23,7 @@ pub struct Numbered<'a> {
 impl<'a> Lines<'a> {
     pub fn of(script: &'a [u8]) -> Lines<'a> {
         Lines {
-            rest: &script[0..script.len().min(MOST)],
+            rest: &script[0..script.len().min(MAX_OCTETS)],
             number: 0,
         }
     }

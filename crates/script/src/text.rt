@@ -32,7 +32,7 @@ fn accepted(out: &mut String, number: usize, reply: Reply) -> fmt::Result {
 }
 
 fn acts(out: &mut String, acts: Acts) -> fmt::Result {
-    for i in 0..3 {
+    for i in 0..acts.len() {
         if let Some(one) = acts.get(i) {
             act(out, one)?;
         }

@@ -9,5 +9,5 @@ pub ghost-self : need.ghost-self
 ghost-self c =
     let self = c .args .self .now in
     let same = ap length (c .remove .ensures .line) in
-    let fewer = length-without (c .from .result) (lined (self .queue) (self .claims)) in
+    let fewer = length-without (c .from .result) (lined (self .«claim_line») (self .claims)) in
     (self .«in_time», (omega (arith, same, fewer, self .«rows_left»), tt))

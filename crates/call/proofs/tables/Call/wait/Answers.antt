@@ -7,4 +7,4 @@ pub ghost-self : need.ghost-self
 ghost-self g c =
     let self = c .args .self .now in
     let long = same-len-mid 0 _ (self .claims) (c .join .last .places) (c .join .kept .places) in
-    (self .«in_time», (fits-more (self .queue) (c .join .last .self) (self .claims) _ (c .join .result) _ _ (c .join .ensures .count) (c .pre) long, tt))
+    (self .«in_time», (fits-more (self .«claim_line») (c .join .last .self) (self .claims) _ (c .join .result) _ _ (c .join .ensures .count) (c .pre) long, tt))
