@@ -62,7 +62,7 @@ impl Call {
                     AlarmKind::Grace => self.end(register, transmission, EndCause::TimeOut),
                 }
             }
-            // No run comes here: every alarm is of an open transmission.
+            // An alarm of no open transmission is dropped without an act.
             None => {
                 self.drop_alarm(alarm.grant);
                 Acts::Zero

@@ -85,7 +85,7 @@ impl Call {
     fn seconds_left(&self, grant: u16) -> u32 {
         match place_of_first(self.alarm_line.all(&self.alarms), &IsAlarmOf { grant }) {
             Some(place) => self.alarms[place - 1].due.saturating_sub(self.clock),
-            // No run comes here: every open transmission has its alarm.
+            // A transmission without an alarm has no seconds left.
             None => 0,
         }
     }

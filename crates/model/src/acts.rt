@@ -151,7 +151,7 @@ impl Acts {
 // The answer to an accepted event.
 #[derive(Clone, Copy)]
 pub struct Reply {
-    // The clock stopped at an alarm, before the second that it was to reach.
+    // An alarm acted: the clock is at its due second, and the event is to be made again.
     pub more: bool,
     pub acts: Acts,
 }

@@ -1,7 +1,7 @@
 -- Orderings keep the laws when they are made of others: `along`, `at-each` and `by-turns`; and numbers keep them.
 -- Cited where an `impl` of `Ordering` owes its laws.
-use mathlib.Core.Path.{_≡_, refl, sym, ap, _∙_}
-use mathlib.Core.Bool.{true, false}
+use mathlib.Core.Path.{_≡_, sym, ap, _∙_}
+use mathlib.Core.Bool.{true}
 use mathlib.Core.Logic.{inl, inr}
 use Prim.Native.Nat.{ℕ, _<_, _≤_}
 use native.Mathlib.Omega.{arith}

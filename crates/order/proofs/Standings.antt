@@ -1,8 +1,6 @@
 -- Facts on standings alone.
-use mathlib.Core.Path.{_≡_, refl, sym, ap, _∙_}
+use mathlib.Core.Path.{_≡_, refl, ap}
 use mathlib.Core.Bool.{true, false}
-use Prim.Native.Nat.{ℕ}
-use native.Mathlib.Omega.{arith}
 use Rattle.std.proofs.shelf.Tests.{both-ways}
 use Rattle.order.specs.Standings.{not-behind, turned, in-turn}
 use Rattle.order.specs.declared.standing.Standing.{Standing}

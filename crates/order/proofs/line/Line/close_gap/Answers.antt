@@ -1,7 +1,7 @@
-use mathlib.Core.Path.{_≡_, sym, ap, subst, _∙_}
+use mathlib.Core.Path.{sym, ap, subst, _∙_}
 use native.Mathlib.Omega.{arith}
 use Prim.Native.Nat.{_-_, _≤_}
-use lib.ListN.{take, length, length-take}
+use lib.ListN.{take, length-take}
 use Rattle.order.specs.Lines.{without, Ordered}
 use Rattle.order.proofs.Lines.{ordered-without}
 use Rattle.order.proofs.Places.{left, taken}
