@@ -5,4 +5,7 @@ use Rattle.call.proofs.tables.Call.enter_line.Goals as goal
 pub invariant_of-self : goal.invariant_of-self
 invariant_of-self g c =
     let self = c.args.self.now in
-    (self.in_time, (fits_more self.claim_line c.join.new.self self.claims _ c.join.result _ _ c.join.ensures.count c.requires.rows c.join.auto.places, tt))
+    record {
+      in_time = self.in_time;
+      rows_left = fits_more self.claim_line c.join.new.self self.claims _ c.join.result _ _ c.join.ensures.count c.requires.rows c.join.auto.places;
+    }
