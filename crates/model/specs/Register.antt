@@ -24,7 +24,7 @@ placed zero row rows = rows
 placed (suc k) row rows = slice_set rows k row
 
 -- a row just opened
-abbrev pub open_row : ℕ → Ground → ℕ → Row
+abbrev pub open_row : ℕ → (ground : Ground) → ℕ → Row
 open_row camera ground second = record { camera = camera; ground = ground; granted = second; ended = 0; cause = NotEnded }
 
 -- a row with its end

@@ -113,7 +113,7 @@ abbrev pub of_member : Compare → State → ℕ → CameraEvent → State × An
 of_member cmp s c e = if_member cmp s c e (first_that (is_member c) s.tables.members)
 
 -- a camera that only receives is rejected
-abbrev pub by_class : Compare → State → ℕ → Ground → Class → State × Answer
+abbrev pub by_class : Compare → State → ℕ → (ground : Ground) → Class → State × Answer
 by_class cmp s c ground ReceiveOnly = only_says s (Reject c reject.ReceiveOnly)
 by_class cmp s c ground MayTransmit = in_state cmp s c (state_of_camera s.tables c) (its.Request ground)
 

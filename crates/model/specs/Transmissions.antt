@@ -39,7 +39,7 @@ abbrev pub next_grant : Tables → ℕ → Granted
 next_grant t camera = record { number = t.granted + 1; camera = camera; seconds = t.settings.talk }
 
 -- the next number is given, and a transmission under it stands
-abbrev pub numbered_next : Tables → ℕ → Ground → Tables
+abbrev pub numbered_next : Tables → ℕ → (ground : Ground) → Tables
 numbered_next t camera ground = record {
   settings = t.settings;
   clock = t.clock;

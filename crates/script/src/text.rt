@@ -19,7 +19,8 @@ pub fn bad_line(out: &mut String, number: usize) -> fmt::Result {
 }
 
 fn refused(out: &mut String, number: usize, answer: u8) -> fmt::Result {
-    writeln!(out, "n={number} answer={answer} more=0 acts=0")
+    writeln!(out, "n={number} answer={answer} more=0 acts=0")?;
+    Ok(())
 }
 
 fn accepted(out: &mut String, number: usize, reply: Reply) -> fmt::Result {
@@ -43,5 +44,6 @@ fn act(out: &mut String, act: Act) -> fmt::Result {
     let number = act.number();
     let camera = act.camera();
     let value = act.value();
-    writeln!(out, "act={word} no={number} cam={camera} value={value}")
+    writeln!(out, "act={word} no={number} cam={camera} value={value}")?;
+    Ok(())
 }
