@@ -1,6 +1,7 @@
 // The public interface of a call.
 ghost use Rattle.std.specs.Prelude.{◌≡◌, ◌≤◌, length};
 ghost use Rattle.model.specs.Laws.{LawfulEvent, InLine, OnTime, NumbersRise};
+ghost use Rattle.model.specs.Register.{blanked};
 ghost use Rattle.model.specs.State.{Compare, opened, row_read};
 ghost use Rattle.model.specs.Step.{step};
 ghost use Rattle.arbiter.specs.View.{seen};
@@ -27,6 +28,7 @@ impl<'a> Arbiter<'a> {
     pub fn open(settings: Settings, register: &'a mut [Row]) -> Arbiter<'a>
         requires { settings.rows ≤ length register.old }
         ensures state { seen result ≡ opened settings register.old }
+        ensures rows { result.register.now ≡ blanked settings.rows register.old }
         ensures same { result.register.ghost_name ≡ register.entry.ghost_name }
         ensures in_line { (cmp : Compare) → InLine cmp (seen result).tables }
         ensures on_time { OnTime (seen result).tables }

@@ -10,7 +10,7 @@ use model::causes::RejectCause;
 use model::events::{CameraEvent, Event};
 use model::refusals::Refusal;
 use model::register::Row;
-use model::tables::{CameraState, Class};
+use model::tables::{Class, State};
 use order::ordering::Ordering;
 use precedence::claims::Claim;
 use precedence::grounds::{Ground, Kind};
@@ -111,40 +111,41 @@ impl Call {
         register: &mut [Row],
         rule: &R,
         camera: u32,
-        state: CameraState,
+        state: State,
         event: CameraEvent,
     ) -> Result<Reply, Refusal>
         ensures state { view self.new register.new ≡ (in_state (R.Ordering.standing rule.now) (view self.old register.old) camera state event).0 }
         ensures answer { result ≡ (in_state (R.Ordering.standing rule.now) (view self.old register.old) camera state event).1 }
     {
         match (state, event) {
-            (CameraState::Idle, CameraEvent::Request { ground }) => {
+            (State::Idle, CameraEvent::Request { ground }) => {
                 self.ask(register, rule, Claim { camera, ground })
             }
-            (CameraState::Waiting { place }, CameraEvent::Request { .. } | CameraEvent::Position) =>
-                { queued(camera, place) }
-            (CameraState::Standing { transmission }, CameraEvent::Request { .. }) => {
+            (State::Waiting { place }, CameraEvent::Request { .. } | CameraEvent::Position) => {
+                queued(camera, place)
+            }
+            (State::Standing { transmission }, CameraEvent::Request { .. }) => {
                 self.resend(transmission)
             }
-            (CameraState::Recalled { cause, .. }, CameraEvent::Request { .. }) => {
+            (State::Recalled { cause, .. }, CameraEvent::Request { .. }) => {
                 rejected(camera, RejectCause::Recalled { cause })
             }
-            (CameraState::Idle, CameraEvent::Leave) => self.leave_idle(camera),
-            (CameraState::Waiting { .. }, CameraEvent::Leave) => self.leave_waiting(camera),
+            (State::Idle, CameraEvent::Leave) => self.leave_idle(camera),
+            (State::Waiting { .. }, CameraEvent::Leave) => self.leave_waiting(camera),
             (
-                CameraState::Standing { transmission } | CameraState::Recalled { transmission, .. },
+                State::Standing { transmission } | State::Recalled { transmission, .. },
                 CameraEvent::Leave,
             ) => self.leave_open(register, camera, transmission),
             (
-                CameraState::Standing { transmission } | CameraState::Recalled { transmission, .. },
+                State::Standing { transmission } | State::Recalled { transmission, .. },
                 CameraEvent::Release,
             ) => self.release(register, transmission),
-            (CameraState::Idle | CameraState::Waiting { .. }, CameraEvent::Release) => {
+            (State::Idle | State::Waiting { .. }, CameraEvent::Release) => {
                 Err(Refusal::NothingOpen)
             }
-            (CameraState::Waiting { .. }, CameraEvent::Cancel) => self.cancel(camera),
+            (State::Waiting { .. }, CameraEvent::Cancel) => self.cancel(camera),
             (
-                CameraState::Idle | CameraState::Standing { .. } | CameraState::Recalled { .. },
+                State::Idle | State::Standing { .. } | State::Recalled { .. },
                 CameraEvent::Cancel | CameraEvent::Position,
             ) => Err(Refusal::NotWaiting),
         }

@@ -1,10 +1,11 @@
 // Who is in the call, and in which state.
-ghost use Rattle.std.specs.Prelude.{◌≡◌};
+ghost use Rattle.std.specs.Prelude.{◌≡◌, ◌<◌, ◌≤◌, IfSome, nat_eq};
+ghost use Rattle.order.specs.Lines.{lined};
 ghost use Rattle.model.specs.Cameras.{state_of_camera};
 ghost use Rattle.model.specs.Lookups.{is_member, transmission_of};
 ghost use Rattle.model.specs.Step.{may_not_join, admit, join_as, drop_member};
 ghost use Rattle.model.specs.Tables.{class_of};
-ghost use Rattle.model.specs.Words.{has, first_that};
+ghost use Rattle.model.specs.Words.{has, first_that, place_of_first};
 ghost use Rattle.call.specs.View.{as_lists};
 
 use crate::answers::accepted;
@@ -13,7 +14,7 @@ use crate::tables::Call;
 use model::acts::{Acts, Reply};
 use model::lookup::{IsClaimOf, IsMember, IsTransmissionOf, place_of_first};
 use model::refusals::Refusal;
-use model::tables::{CameraState, Class, Member, Phase, Transmission};
+use model::tables::{Class, Member, Phase, State, Transmission};
 
 impl Call {
     // A camera joins with a class, by its number.
@@ -40,7 +41,15 @@ impl Call {
     fn is_in(&self, camera: u32) -> bool
         ensures test { result ≡ has (is_member camera) (as_lists self.now).members }
     {
-        place_of_first(self.member_line.all(&self.members), &IsMember { camera }).is_some()
+        self.place_of(camera).is_some()
+    }
+
+    // The camera's place among the members, from 1.
+    pub(crate) fn place_of(&self, camera: u32) -> Option<usize>
+        ensures place { result ≡ place_of_first (λ m. nat_eq m.camera camera) (lined self.now.member_line self.now.members) }
+        ensures within { IfSome result (λ place. (0 < place) × (place ≤ 64)) }
+    {
+        place_of_first(self.member_line.all(&self.members), &IsMember { camera })
     }
 
     // Who joins is last in joining order.
@@ -73,20 +82,20 @@ impl Call {
     }
 
     // Idle, waiting, standing or recalled.
-    pub(crate) fn state_of(&self, camera: u32) -> CameraState
+    pub(crate) fn state_of(&self, camera: u32) -> State
         ensures state { result ≡ state_of_camera (as_lists self.now) camera }
     {
         match self.transmission_of(camera) {
             Some(transmission) => match transmission.phase {
-                Phase::Standing => CameraState::Standing { transmission },
-                Phase::Recalled { cause } => CameraState::Recalled {
+                Phase::Standing => State::Standing { transmission },
+                Phase::Recalled { cause } => State::Recalled {
                     transmission,
                     cause,
                 },
             },
             None => match place_of_first(self.claim_line.all(&self.claims), &IsClaimOf { camera }) {
-                Some(place) => CameraState::Waiting { place: place as u8 },
-                None => CameraState::Idle,
+                Some(place) => State::Waiting { place: place as u8 },
+                None => State::Idle,
             },
         }
     }

@@ -46,6 +46,7 @@ impl Call {
     // Makes a call, and blanks the rows that it may grant.
     pub fn open(settings: Settings, register: &mut [Row]) -> Call
         ensures state { view result register.new ≡ opened settings register.old }
+        ensures rows { register.new ≡ blanked settings.rows register.old }
     {
         blank(register, usize::from(settings.rows));
         Call {

@@ -40,28 +40,24 @@ impl Call {
                 second: granted.notify(),
             });
         }
-        self.ask_line(rule, claim)
+        self.wait(rule, claim)
     }
 
     // The claim waits, unless the line is full.
-    fn ask_line<R: Ordering<Item = Ground>>(
-        &mut self,
-        rule: &R,
-        claim: Claim,
-    ) -> Result<Reply, Refusal>
+    fn wait<R: Ordering<Item = Ground>>(&mut self, rule: &R, claim: Claim) -> Result<Reply, Refusal>
         requires { self.old.grants + length (lined self.old.claim_line self.old.claims) < self.old.settings.rows }
         ensures lists { as_lists self.new ≡ (ask_line (R.Ordering.standing rule.now) (as_lists self.old) claim).0 }
         ensures answer { result ≡ (ask_line (R.Ordering.standing rule.now) (as_lists self.old) claim).1 }
     {
         if self.claim_line.all(&self.claims).len() < usize::from(self.settings.line) {
-            accepted(self.wait(rule, claim))
+            accepted(self.wait_in_line(rule, claim))
         } else {
             rejected(claim.camera, RejectCause::LineFull)
         }
     }
 
     // The claim joins the line, and then the recall test is made.
-    fn wait<R: Ordering<Item = Ground>>(&mut self, rule: &R, claim: Claim) -> Acts
+    fn wait_in_line<R: Ordering<Item = Ground>>(&mut self, rule: &R, claim: Claim) -> Acts
         requires room { length (lined self.old.claim_line self.old.claims) < self.old.settings.line }
         requires rows { self.old.grants + length (lined self.old.claim_line self.old.claims) < self.old.settings.rows }
         ensures lists { as_lists self.new ≡ (wait_for (R.Ordering.standing rule.now) (as_lists self.old) claim).0 }

@@ -3,8 +3,8 @@ use Rattle.std.specs.Prelude.{ℕ, Some, None, Option}
 use Rattle.model.specs.Words.{place_of_first, first_that}
 use Rattle.model.specs.Lookups.{claim_of, transmission_of}
 use Rattle.model.specs.State.{Tables}
-use Rattle.model.specs.declared.tables.CameraState.{CameraState}
-use Rattle.model.specs.declared.tables.CameraState.TheVariants as camera
+use Rattle.model.specs.declared.tables.State.{State as CameraState}
+use Rattle.model.specs.declared.tables.State.TheVariants as camera
 use Rattle.model.specs.declared.tables.Phase.{Phase}
 use Rattle.model.specs.declared.tables.Phase.TheVariants as phase
 use Rattle.model.specs.declared.tables.Transmission.{Transmission}

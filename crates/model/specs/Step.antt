@@ -28,8 +28,8 @@ use Rattle.model.specs.declared.events.CameraEvent.TheVariants as its
 use Rattle.model.specs.declared.events.Event.{Event}
 use Rattle.model.specs.declared.events.Event.TheVariants.{Join, Leave, Request, Release, Cancel, Position, Clock}
 use Rattle.model.specs.declared.refusals.Refusal.TheVariants.{BadJoin, CallFull, NotInCall, BadKind, NothingOpen, NotWaiting}
-use Rattle.model.specs.declared.tables.CameraState.{CameraState}
-use Rattle.model.specs.declared.tables.CameraState.TheVariants as camera
+use Rattle.model.specs.declared.tables.State.{State as CameraState}
+use Rattle.model.specs.declared.tables.State.TheVariants as camera
 use Rattle.model.specs.declared.tables.Class.{Class}
 use Rattle.model.specs.declared.tables.Class.TheVariants.{ReceiveOnly, MayTransmit}
 use Rattle.model.specs.declared.tables.Member.{Member}

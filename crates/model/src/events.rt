@@ -22,3 +22,10 @@ pub enum CameraEvent {
     Cancel,
     Position,
 }
+
+// The camera that an event comes from, and its place among the members, from 1.
+#[derive(Clone, Copy)]
+pub struct Sender {
+    pub camera: u32,
+    pub place: usize,
+}

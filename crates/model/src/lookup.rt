@@ -1,7 +1,6 @@
 // Looking for a camera or a grant in a table: the place of the first entry that passes a test.
-ghost use Rattle.std.specs.Prelude.{◌≡◌, ◌<◌, ◌≤◌, Bool, length, IfSome, nat_lt};
+ghost use Rattle.std.specs.Prelude.{◌≡◌, ◌==◌, ◌<◌, ◌≤◌, Bool, length, IfSome, nat_lt};
 ghost use Rattle.model.specs.Words.{has, until, place_of_first};
-ghost use Rattle.model.specs.Lookups.{is_member, claim_of, transmission_of, numbered, alarm_of};
 
 use crate::tables::{Member, Transmission};
 use precedence::alarms::Alarm;
@@ -26,7 +25,7 @@ pub struct IsMember {
 impl Test for IsMember {
     type Item = Member;
 
-    ghost passes = { λ t m. is_member t.camera m };
+    ghost passes = { λ t m. m.camera == t.camera };
 
     fn passes(&self, member: &Member) -> bool {
         member.camera == self.camera
@@ -42,7 +41,7 @@ pub struct IsClaimOf {
 impl Test for IsClaimOf {
     type Item = Claim;
 
-    ghost passes = { λ t w. claim_of t.camera w };
+    ghost passes = { λ t w. w.camera == t.camera };
 
     fn passes(&self, claim: &Claim) -> bool {
         claim.camera == self.camera
@@ -58,7 +57,7 @@ pub struct IsTransmissionOf {
 impl Test for IsTransmissionOf {
     type Item = Transmission;
 
-    ghost passes = { λ t x. transmission_of t.camera x };
+    ghost passes = { λ t x. x.camera == t.camera };
 
     fn passes(&self, transmission: &Transmission) -> bool {
         transmission.camera == self.camera
@@ -74,7 +73,7 @@ pub struct IsNumbered {
 impl Test for IsNumbered {
     type Item = Transmission;
 
-    ghost passes = { λ t x. numbered t.number x };
+    ghost passes = { λ t x. x.number == t.number };
 
     fn passes(&self, transmission: &Transmission) -> bool {
         transmission.number == self.number
@@ -90,7 +89,7 @@ pub struct IsAlarmOf {
 impl Test for IsAlarmOf {
     type Item = Alarm;
 
-    ghost passes = { λ t a. alarm_of t.grant a };
+    ghost passes = { λ t a. a.grant == t.grant };
 
     fn passes(&self, alarm: &Alarm) -> bool {
         alarm.grant == self.grant

@@ -50,7 +50,7 @@ pub struct Transmission {
 
 // The state of a camera in the call.
 #[derive(Clone, Copy)]
-pub enum CameraState {
+pub enum State {
     Idle,
     // Its claim is at this place of the line, from 1.
     Waiting {
