@@ -1,4 +1,6 @@
 // One call: its tables, and what each event makes of them and of the register that is lent.
+#![tactic(auto)]
+
 pub mod alarms;
 pub mod answers;
 pub mod clock;

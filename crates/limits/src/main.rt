@@ -1,5 +1,7 @@
 // Runs the listing on many scripts: those of standard input, each behind a line `#name`, and some long ones. What it
 // prints is compared with what the listings must be.
+#![tactic(auto)]
+
 mod long;
 
 use crate::long::{noise, padded};

@@ -1,4 +1,6 @@
 // The listing program: reads a script of events, and prints what the arbiter answers to each.
+#![tactic(auto)]
+
 use script::lines::MAX_OCTETS;
 use script::run::listing;
 use std::io::Read;

@@ -1,4 +1,6 @@
 // The words of a call: settings, events, acts, replies, refusals, and the entries of its tables.
+#![tactic(auto)]
+
 pub mod acts;
 pub mod causes;
 pub mod checking;

@@ -1,4 +1,6 @@
 // The listing: a script of events, a line each, and the text of what the arbiter answers.
+#![tactic(auto)]
+
 pub mod forms;
 pub mod lines;
 pub mod pairs;
