@@ -1,6 +1,6 @@
 -- What holds of every event, of `step`.
 use Rattle.std.proofs.Common.{◌≡◌, ℕ, ◌+◌, ◌≤◌, Bool, true, false, length, Some, None, Ok, Err, Option, sym, refl, ap, subst, arith}
-use Rattle.std.specs.List.{AllByRecursion as All}
+use Rattle.std.specs.List.{AllByRecursion}
 use Rattle.std.proofs.lemmas.Bool.{both_ways, false≢true}
 use Rattle.order.specs.Laws.{Laws}
 use Rattle.order.specs.Lines.{Ordered, at_place, place_of, insert}
@@ -99,7 +99,7 @@ again_nothing cmp s (Clock to) h = absurd (false≢true h)
 module _ {S : Type 0} (standing : S → Ground → Ground → Standing) (laws : Laws standing) (o : S) (s : State) (c : ℕ) where
   -- if a place is told, it is this one
   abbrev Told : ℕ → State × Answer → Type 0
-  Told place x = All (ToldPlace place) (acts_of x.1)
+  Told place x = AllByRecursion (ToldPlace place) (acts_of x.1)
 
   recalled : (t : Tables) (place n : ℕ) → place ≡ n → (x : Option Transmission) → Told n (rows_stay s (accepted_with ((recall_it t x).0, queued_acts (Queued c place) (recall_it t x).1)))
   recalled t place n is None = (is, tt)

@@ -1,6 +1,6 @@
 -- Claims, alarms and transmissions in order stay in order, and no alarm gets overdue.
 use Rattle.std.proofs.Common.{◌≡◌, ℕ, ◌+◌, ◌<◌, ◌≤◌, max, Bool, ltb, List, [], ◌∷◌, length, Some, None, Option, refl, subst, arith}
-use Rattle.std.specs.List.{insert as inserted, AllByRecursion as All}
+use Rattle.std.specs.List.{insert as inserted, AllByRecursion}
 use Rattle.std.proofs.lemmas.Bool.{cond_both}
 use Rattle.order.specs.Laws.{Laws}
 use Rattle.order.specs.Lines.{Ordered, at_place, insert, joined, appended, place_of, without}
@@ -39,9 +39,9 @@ use Rattle.model.proofs.Timely.{none_before, none_there}
 
 -- a list without one of it
 
-All-without_first : {X : Type 0} (P : X → Type 0) (p : X → Bool) (xs : List X) → All P xs → All P (without_first p xs)
+All-without_first : {X : Type 0} (P : X → Type 0) (p : X → Bool) (xs : List X) → AllByRecursion P xs → AllByRecursion P (without_first p xs)
 All-without_first P p [] ps = tt
-All-without_first P p (x ∷ xs) ps = cond_both (p x) xs (x ∷ without_first p xs) (λ ys. All P ys) (λ _. ps.1) (λ _. (ps.0, All-without_first P p xs ps.1))
+All-without_first P p (x ∷ xs) ps = cond_both (p x) xs (x ∷ without_first p xs) (λ ys. AllByRecursion P ys) (λ _. ps.1) (λ _. (ps.0, All-without_first P p xs ps.1))
 
 Ordered-without_first : {X : Type 0} (cmp : X → X → Standing) (p : X → Bool) (xs : List X) → Ordered cmp xs → Ordered cmp (without_first p xs)
 Ordered-without_first cmp p [] s = tt
@@ -52,7 +52,7 @@ Ordered-without_first cmp p (x ∷ xs) s =
 -- alarms in order, none overdue
 
 abbrev Fine : ℕ → List Alarm → Type 0
-Fine clock alarms = Ordered by_due alarms × All (λ a. clock ≤ a.due) alarms
+Fine clock alarms = Ordered by_due alarms × AllByRecursion (λ a. clock ≤ a.due) alarms
 
 set_fine : (clock seconds n : ℕ) (kind : AlarmKind) (alarms : List Alarm) → Fine clock alarms → Fine clock (joined 16 by_due (record { due = clock + seconds; grant = n; kind = kind }) alarms)
 set_fine clock seconds n kind alarms h =
@@ -66,7 +66,7 @@ drop_fine : (clock : ℕ) (p : Alarm → Bool) (alarms : List Alarm) → Fine cl
 drop_fine clock p alarms h = (Ordered-without_first by_due p alarms h.0, All-without_first (λ a. clock ≤ a.due) p alarms h.1)
 
 -- the first is not overdue
-first_due : (clock : ℕ) (alarms : List Alarm) (a : Alarm) → at_place 1 alarms ≡ Some a → All (λ b. clock ≤ b.due) alarms → clock ≤ a.due
+first_due : (clock : ℕ) (alarms : List Alarm) (a : Alarm) → at_place 1 alarms ≡ Some a → AllByRecursion (λ b. clock ≤ b.due) alarms → clock ≤ a.due
 first_due clock [] a e h = absurd (let z : ◌≡◌ {A = ℕ} 0 1 = cc in omega arith)
 first_due clock (b ∷ bs) a e h = let same : b ≡ a = cc in subst (λ (x : Alarm). clock ≤ x.due) same h.0
 
@@ -91,9 +91,9 @@ rise_without n p (x ∷ xs) h =
     cond_both (p x) xs (x ∷ without_first p xs) (λ ys. Rise n ys) (λ _. h.2)
     (λ _. (h.0, All-without_first (λ y. x.number < y.number) p xs h.1, rise_without n p xs h.2))
 
-above_recalled : (m : ℕ) (p : Transmission → Bool) (cause : RecallCause) (xs : List Transmission) → All (λ y. m < y.number) xs → All (λ y. m < y.number) (change_first p (recalled_for cause) xs)
+above_recalled : (m : ℕ) (p : Transmission → Bool) (cause : RecallCause) (xs : List Transmission) → AllByRecursion (λ y. m < y.number) xs → AllByRecursion (λ y. m < y.number) (change_first p (recalled_for cause) xs)
 above_recalled m p cause [] h = tt
-above_recalled m p cause (x ∷ xs) h = cond_both (p x) (recalled_for cause x ∷ xs) (x ∷ change_first p (recalled_for cause) xs) (λ ys. All (λ y. m < y.number) ys) (λ _. h) (λ _. (h.0, above_recalled m p cause xs h.1))
+above_recalled m p cause (x ∷ xs) h = cond_both (p x) (recalled_for cause x ∷ xs) (x ∷ change_first p (recalled_for cause) xs) (λ ys. AllByRecursion (λ y. m < y.number) ys) (λ _. h) (λ _. (h.0, above_recalled m p cause xs h.1))
 
 rise_recalled : (n : ℕ) (p : Transmission → Bool) (cause : RecallCause) (xs : List Transmission) → Rise n xs → Rise n (change_first p (recalled_for cause) xs)
 rise_recalled n p cause [] h = tt

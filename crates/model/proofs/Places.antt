@@ -1,6 +1,6 @@
 -- The one at a place, who stands before it and who after, and how many are ahead of a newcomer or level with it.
 use Rattle.std.proofs.Common.{◌≡◌, ℕ, zero, suc, ◌+◌, ◌-◌, ◌≤◌, Bool, true, false, cond, ◌||◌, List, [], ◌∷◌, length, take, drop, Some, None, count_by, sym, refl, ap, ◌∙◌, subst, inl, inr, add-one, arith, length-take}
-use Rattle.std.specs.List.{insert as inserted, AllByRecursion as All, slice_get}
+use Rattle.std.specs.List.{insert as inserted, AllByRecursion, slice_get}
 use Rattle.std.proofs.ByRecursion.{All-weaker}
 use Rattle.std.proofs.lemmas.List.Sums.{sum_by-take-drop, sum_by-cons, prefix_len-le-length}
 use Rattle.std.proofs.lemmas.Bool.{cases_Bool, cond-true, cond-false, false≢true, eqb-true}
@@ -25,7 +25,7 @@ none_some : {X : Type 0} (x : X) → None ≡ Some x → ⊥
 none_some x e = let z : ◌≡◌ {A = ℕ} 0 1 = cc in omega arith
 
 -- what holds of all holds of the one at a place
-all_nth : {X : Type 0} (P : X → Type 0) (xs : List X) (k : ℕ) (x : X) → All P xs → slice_get xs k ≡ Some x → P x
+all_nth : {X : Type 0} (P : X → Type 0) (xs : List X) (k : ℕ) (x : X) → AllByRecursion P xs → slice_get xs k ≡ Some x → P x
 all_nth P [] k x ps e = absurd (none_some x e)
 all_nth P (y ∷ ys) zero x ps e = let same : y ≡ x = cc in subst P same ps.0
 all_nth P (y ∷ ys) (suc k) x ps e = all_nth P ys k x ps.1 e
@@ -35,7 +35,7 @@ all_nth P (y ∷ ys) (suc k) x ps e = all_nth P ys k x ps.1 e
 one_more : {X : Type 0} (p : X → Bool) (x : X) (xs : List X) → count_by p (x ∷ xs) ≡ cond (p x) 1 0 + count_by p xs
 one_more p x xs = sum_by-cons (λ y. cond (p y) 1 0) x xs
 
-count_none : {X : Type 0} (p : X → Bool) (xs : List X) → All (λ x. p x ≡ false) xs → count_by p xs ≡ 0
+count_none : {X : Type 0} (p : X → Bool) (xs : List X) → AllByRecursion (λ x. p x ≡ false) xs → count_by p xs ≡ 0
 count_none p [] ps = refl
 count_none p (x ∷ xs) ps =
     let nil : ◌≡◌ {A = ℕ} (cond (p x) 1 0) 0 = cond-false (p x) 1 0 ps.0 in
@@ -61,7 +61,7 @@ abbrev pub LawOne : Compare → Type 0
 LawOne cmp = (a b : Ground) → cmp a b ≡ Ahead → cmp b a ≡ Behind
 
 module _ (cmp : Compare) (one : LawOne cmp) where
-  none_ahead : (w : Claim) (line : List Claim) → All (λ v. by_ground cmp w v ≡ Behind → ⊥) line → count_by (λ v. is_ahead (cmp v.ground w.ground)) line ≡ 0
+  none_ahead : (w : Claim) (line : List Claim) → AllByRecursion (λ v. by_ground cmp w v ≡ Behind → ⊥) line → count_by (λ v. is_ahead (cmp v.ground w.ground)) line ≡ 0
   none_ahead w line h = count_none (λ v. is_ahead (cmp v.ground w.ground)) line
       (All-weaker (λ v. by_ground cmp w v ≡ Behind → ⊥) (λ v. is_ahead (cmp v.ground w.ground) ≡ false) (λ v k. not_ahead (cmp v.ground w.ground) (λ e. k (one v.ground w.ground e))) line h)
 
@@ -72,7 +72,7 @@ module _ (cmp : Compare) (one : LawOne cmp) where
       let same : v ≡ w = cc in
       let itself : is_ahead (cmp v.ground w.ground) ≡ false = not_ahead (cmp v.ground w.ground) (λ ahead. let back = one v.ground w.ground ahead in let z : ◌≡◌ {A = ℕ} 0 1 = cc in omega arith) in
       let first : ◌≡◌ {A = ℕ} (cond (is_ahead (cmp v.ground w.ground)) 1 0) 0 = cond-false _ 1 0 itself in
-      let rest = none_ahead w vs (subst (λ u. All (λ x. by_ground cmp u x ≡ Behind → ⊥) vs) same s.0) in
+      let rest = none_ahead w vs (subst (λ u. AllByRecursion (λ x. by_ground cmp u x ≡ Behind → ⊥) vs) same s.0) in
       omega (arith, first, rest, one_more (λ x. is_ahead (cmp x.ground w.ground)) v vs)
   counted (v ∷ vs) (suc k) w e s =
       let front = ahead_or_level (cmp v.ground w.ground) (all_nth (λ x. by_ground cmp v x ≡ Behind → ⊥) vs k w s.0 e) in
@@ -125,12 +125,12 @@ module _ (cmp : Compare) (one : LawOne cmp) where
 
 -- from the two laws: in a line in order, those in front of a newcomer are all that are ahead of it or level with it
 module _ {S : Type 0} (standing : S → Ground → Ground → Standing) (laws : Laws standing) (o : S) where
-  count_front : (w : Claim) (line : List Claim) → All (λ v. by_ground (standing o) v w ≡ Behind → ⊥) line → length line ≡ ahead_of (standing o) w.ground line + level_with (standing o) w.ground line
+  count_front : (w : Claim) (line : List Claim) → AllByRecursion (λ v. by_ground (standing o) v w ≡ Behind → ⊥) line → length line ≡ ahead_of (standing o) w.ground line + level_with (standing o) w.ground line
   count_front w [] h = refl
   count_front w (v ∷ vs) h =
       omega (arith, ahead_or_level (standing o v.ground w.ground) h.0, count_front w vs h.1, one_more (λ x. is_ahead (standing o x.ground w.ground)) v vs, one_more (λ x. is_level (standing o x.ground w.ground)) v vs)
 
-  count_rest : (w : Claim) (line : List Claim) → All (λ v. by_ground (standing o) v w ≡ Behind) line → ahead_of (standing o) w.ground line + level_with (standing o) w.ground line ≡ 0
+  count_rest : (w : Claim) (line : List Claim) → AllByRecursion (λ v. by_ground (standing o) v w ≡ Behind) line → ahead_of (standing o) w.ground line + level_with (standing o) w.ground line ≡ 0
   count_rest w [] h = refl
   count_rest w (v ∷ vs) h =
       omega (arith, neither (standing o v.ground w.ground) h.0, count_rest w vs h.1, one_more (λ x. is_ahead (standing o x.ground w.ground)) v vs, one_more (λ x. is_level (standing o x.ground w.ground)) v vs)

@@ -1,6 +1,6 @@
 -- What the clock keeps: it never goes back, it stops at the first alarm that is due, and that alarm alone acts.
 use Rattle.std.proofs.Common.{◌≡◌, ℕ, zero, suc, ◌+◌, ◌<◌, ◌≤◌, max, Bool, true, false, cond, ◌||◌, ltb, List, [], ◌∷◌, length, drop, Some, None, Option, sym, refl, ap, ◌∙◌, subst, inl, inr, arith}
-use Rattle.std.specs.List.{insert as inserted, AllByRecursion as All}
+use Rattle.std.specs.List.{insert as inserted, AllByRecursion}
 use Rattle.std.proofs.ByRecursion.{All-weaker}
 use Rattle.std.proofs.lemmas.Bool.{cases_lt, cases_Bool, cond_both, cond-true, cond-false, both_ways, or_left, or_from, lt-ltb, le-ltb, eqb-true, eq-eqb}
 use Rattle.order.specs.Lines.{Ordered, at_place, insert, joined, place_of}
@@ -35,14 +35,14 @@ not_later a b h = elim (cases_lt b.due a.due) [
 ]
 
 -- in alarms in order, what is before the first's due second is before the others'
-pub none_before : (P : ℕ → Type 0) (a : Alarm) (alarms : List Alarm) → at_place 1 alarms ≡ Some a → Ordered by_due alarms → ((n : ℕ) → a.due ≤ n → P n) → All (λ b. P b.due) alarms
+pub none_before : (P : ℕ → Type 0) (a : Alarm) (alarms : List Alarm) → at_place 1 alarms ≡ Some a → Ordered by_due alarms → ((n : ℕ) → a.due ≤ n → P n) → AllByRecursion (λ b. P b.due) alarms
 none_before P a [] e s h = tt
 none_before P a (b ∷ bs) e s h =
     let same : b ≡ a = cc in
     let due : b.due ≡ a.due = ap (λ (x : Alarm). x.due) same in
     (h b.due (omega (arith, due)), All-weaker (λ x. by_due b x ≡ Behind → ⊥) (λ x. P x.due) (λ x g. let le : b.due ≤ x.due = not_later b x g in h x.due (omega (arith, due, le))) bs s.0)
 
-pub none_there : {X : Type 0} (P : X → Type 0) (xs : List X) → at_place 1 xs ≡ None → All P xs
+pub none_there : {X : Type 0} (P : X → Type 0) (xs : List X) → at_place 1 xs ≡ None → AllByRecursion P xs
 none_there P [] e = tt
 none_there P (x ∷ xs) e = absurd (let z : ◌≡◌ {A = ℕ} 0 1 = cc in omega arith)
 
@@ -68,7 +68,7 @@ present p (x ∷ xs) y e = elim (cases_Bool (p x)) [
 
 -- the others stay when the first alarm is dropped, and when one is set
 
-all_in : {X : Type 0} (xs : List X) → All (λ x. In x xs) xs
+all_in : {X : Type 0} (xs : List X) → AllByRecursion (λ x. In x xs) xs
 all_in [] = tt
 all_in (x ∷ xs) = (inl refl, All-weaker (λ y. In y xs) (λ y. In y (x ∷ xs)) (λ y h. inr h) xs (all_in xs))
 
@@ -78,9 +78,9 @@ in_inserted [] (suc k) x y h = absurd h
 in_inserted (z ∷ zs) (suc k) x y (inl e) = inl e
 in_inserted (z ∷ zs) (suc k) x y (inr h) = inr (in_inserted zs k x y h)
 
-still_set : (a : Alarm) (alarms : List Alarm) → All (λ b. In b (joined 16 by_due a alarms)) alarms
+still_set : (a : Alarm) (alarms : List Alarm) → AllByRecursion (λ b. In b (joined 16 by_due a alarms)) alarms
 still_set a alarms =
-    cond_both (ltb (length alarms) 16) (insert by_due a alarms) alarms (λ xs. All (λ b. In b xs) alarms)
+    cond_both (ltb (length alarms) 16) (insert by_due a alarms) alarms (λ xs. AllByRecursion (λ b. In b xs) alarms)
     (λ _. All-weaker (λ b. In b alarms) (λ b. In b (insert by_due a alarms)) (λ b h. in_inserted alarms (place_of by_due a alarms) a b h) alarms (all_in alarms))
     (λ _. all_in alarms)
 
@@ -97,9 +97,9 @@ record Expired (t : Tables) (shown : List (ℕ × AlarmKind)) (x : State × Acts
   stays : x.0.tables.clock ≡ t.clock
   shows : alarms_shown (listed x.1) ≡ shown
   effect : has resend_or_reject (listed x.1) ≡ false
-  by_time : All ByTime (listed x.1)
-  places : (cmp : Compare) (line : List Claim) → All (ToldItsPlace cmp line) (listed x.1)
-  others : All (λ a. In a x.0.tables.alarms) (drop 1 t.alarms)
+  by_time : AllByRecursion ByTime (listed x.1)
+  places : (cmp : Compare) (line : List Claim) → AllByRecursion (ToldItsPlace cmp line) (listed x.1)
+  others : AllByRecursion (λ a. In a x.0.tables.alarms) (drop 1 t.alarms)
 
 ended : (t : Tables) (s : State) (n c : ℕ) (o : Option Claim) → s.tables.clock ≡ t.clock → s.tables.alarms ≡ drop 1 t.alarms → Expired t ((n, Grace) ∷ []) ((promote s o).0, end_acts (Ended n c end.TimeOut) (promote s o).1)
 ended t s n c None same left = record {
@@ -108,7 +108,7 @@ ended t s n c None same left = record {
   effect = refl;
   by_time = (refl, tt);
   places = λ cmp line. (tt, tt);
-  others = subst (λ (xs : List Alarm). All (λ a. In a s.tables.alarms) xs) left (all_in s.tables.alarms);
+  others = subst (λ (xs : List Alarm). AllByRecursion (λ a. In a s.tables.alarms) xs) left (all_in s.tables.alarms);
 }
 ended t s n c (Some w) same left = record {
   stays = same;
@@ -116,7 +116,7 @@ ended t s n c (Some w) same left = record {
   effect = refl;
   by_time = (refl, (tt, (tt, tt)));
   places = λ cmp line. (tt, (tt, (tt, tt)));
-  others = subst (λ (xs : List Alarm). All (λ a. In a (promote s (Some w)).0.tables.alarms) xs) left (still_set (record { due = s.tables.clock + s.tables.settings.talk; grant = s.tables.granted + 1; kind = Talk }) s.tables.alarms);
+  others = subst (λ (xs : List Alarm). AllByRecursion (λ a. In a (promote s (Some w)).0.tables.alarms) xs) left (still_set (record { due = s.tables.clock + s.tables.settings.talk; grant = s.tables.granted + 1; kind = Talk }) s.tables.alarms);
 }
 
 kind : (s : State) (x : Transmission) (k : AlarmKind) → without_first (alarm_of x.number) s.tables.alarms ≡ drop 1 s.tables.alarms → Expired s.tables ((x.number, k) ∷ []) (act_by s x k)
@@ -126,7 +126,7 @@ kind s x Talk left = record {
   effect = refl;
   by_time = (refl, tt);
   places = λ cmp line. (tt, tt);
-  others = subst (λ (xs : List Alarm). All (λ a. In a (act_by s x Talk).0.tables.alarms) xs) left (still_set (record { due = s.tables.clock + s.tables.settings.grace; grant = x.number; kind = Grace }) (without_first (alarm_of x.number) s.tables.alarms));
+  others = subst (λ (xs : List Alarm). AllByRecursion (λ a. In a (act_by s x Talk).0.tables.alarms) xs) left (still_set (record { due = s.tables.clock + s.tables.settings.grace; grant = x.number; kind = Grace }) (without_first (alarm_of x.number) s.tables.alarms));
 }
 kind s x Grace left = ended s.tables (close_grant s x.number end.TimeOut) x.number x.camera (at_place 1 s.tables.claims) refl left
 
@@ -142,7 +142,7 @@ expired_by s a None first e =
       effect = refl;
       by_time = tt;
       places = λ cmp line. tt;
-      others = subst (λ (xs : List Alarm). All (λ b. In b (without_first (alarm_of a.grant) s.tables.alarms)) xs) left (all_in (without_first (alarm_of a.grant) s.tables.alarms));
+      others = subst (λ (xs : List Alarm). AllByRecursion (λ b. In b (without_first (alarm_of a.grant) s.tables.alarms)) xs) left (all_in (without_first (alarm_of a.grant) s.tables.alarms));
     }
 expired_by s a (Some x) first e =
     let found = present (numbered a.grant) s.tables.transmissions x e in
@@ -189,7 +189,7 @@ module _ (cmp : Compare) (s : State) (to : ℕ) where
         places = it.places cmp (expire_alarm s' a).0.tables.claims;
       }
 
-  reached : s.tables.clock ≤ to → to ≤ 4000000000 → (Ordered by_due s.tables.alarms → All (λ a. to < a.due) s.tables.alarms) → AtSecond cmp s to (rows_stay s (reach_second s.tables to))
+  reached : s.tables.clock ≤ to → to ≤ 4000000000 → (Ordered by_due s.tables.alarms → AllByRecursion (λ a. to < a.due) s.tables.alarms) → AtSecond cmp s to (rows_stay s (reach_second s.tables to))
   reached forward within none = record {
     nothing_changes = λ e. absurd (both_ways false refl e);
     time = record { there = refl; forward = forward; within = within; no_act = refl; none_due = none };

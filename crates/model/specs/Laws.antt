@@ -11,7 +11,7 @@
 -- NumbersRise    the open transmissions are in the order of their numbers
 -- LawfulEvent    all of this, of one event
 use Rattle.std.specs.Prelude.{◌≡◌, ℕ, ◌+◌, ◌-◌, ◌<◌, ◌≤◌, Bool, true, false, cond, ◌⊎◌, List, [], ◌∷◌, ◌++◌, length, take, drop, Some, Ok, Err, count_by}
-use Rattle.std.specs.List.{AllByRecursion as All}
+use Rattle.std.specs.List.{AllByRecursion}
 use Rattle.order.specs.Lines.{Ordered, at_place}
 use Rattle.order.specs.Standings.{is_ahead, is_level}
 use Rattle.precedence.specs.Grounds.{kind_of}
@@ -102,7 +102,7 @@ ToldItsPlace cmp line (Ended number camera cause) = Unit {0}
 ToldItsPlace cmp line (Cancelled camera) = Unit {0}
 
 abbrev pub PlacesTold : Compare → Answer → Tables → Type 0
-PlacesTold cmp answer t = All (ToldItsPlace cmp t.claims) (acts_of answer)
+PlacesTold cmp answer t = AllByRecursion (ToldItsPlace cmp t.claims) (acts_of answer)
 
 -- a place that an act tells is n
 abbrev pub ToldPlace : ℕ → Act → Type 0
@@ -123,7 +123,7 @@ Newcomer cmp t (Leave c) answer = Unit {0}
 Newcomer cmp t (Request c number priority) answer =
     (kind : Kind) → kind_of number ≡ Some kind → has (claim_of c) t.claims ≡ false → Ordered (by_ground cmp) t.claims
     → let ground : Ground = record { kind = kind; priority = priority } in
-    All (ToldPlace (ahead_of cmp ground t.claims + level_with cmp ground t.claims + 1)) (acts_of answer)
+    AllByRecursion (ToldPlace (ahead_of cmp ground t.claims + level_with cmp ground t.claims + 1)) (acts_of answer)
 Newcomer cmp t (Release c) answer = Unit {0}
 Newcomer cmp t (Cancel c) answer = Unit {0}
 Newcomer cmp t (Position c) answer = Unit {0}
@@ -166,7 +166,7 @@ pub record Reached (t : Tables) (to : ℕ) (acts : Acts) (t' : Tables) : Type 0 
   pub forward : t.clock ≤ to
   pub within : to ≤ 4000000000
   pub no_act : listed acts ≡ []
-  pub none_due : Ordered by_due t.alarms → All (λ a. to < a.due) t.alarms
+  pub none_due : Ordered by_due t.alarms → AllByRecursion (λ a. to < a.due) t.alarms
 
 -- every recall and every end of these acts is because the time is over
 abbrev pub ByTime : Act → Type 0
@@ -190,9 +190,9 @@ pub record Stopped (t : Tables) (to : ℕ) (acts : Acts) (t' : Tables) : Type 0 
   pub no_further : t'.clock ≤ to
   pub at_due : t.clock ≤ alarm.due → t'.clock ≡ alarm.due
   pub alone : alarms_shown (listed acts) ≡ cond (has (numbered alarm.grant) t.transmissions) ((alarm.grant, alarm.kind) ∷ []) []
-  pub by_time : All ByTime (listed acts)
-  pub others_stay : All (λ a. In a t'.alarms) (drop 1 t.alarms)
-  pub none_passed : Ordered by_due t.alarms → t.clock ≤ alarm.due → All (λ a. t'.clock ≤ a.due) t.alarms
+  pub by_time : AllByRecursion ByTime (listed acts)
+  pub others_stay : AllByRecursion (λ a. In a t'.alarms) (drop 1 t.alarms)
+  pub none_passed : Ordered by_due t.alarms → t.clock ≤ alarm.due → AllByRecursion (λ a. t'.clock ≤ a.due) t.alarms
 
 -- a clock event is refused exactly if the second asked for is before the clock, or beyond the last
 pub record ClockRefused (t : Tables) (to : ℕ) (why : Refusal) (t' : Tables) : Type 0 where
@@ -225,12 +225,12 @@ InLine cmp t = Ordered (by_ground cmp) t.claims
 
 -- the alarms are by due second, and none is overdue
 abbrev pub OnTime : Tables → Type 0
-OnTime t = Ordered by_due t.alarms × All (λ a. t.clock ≤ a.due) t.alarms
+OnTime t = Ordered by_due t.alarms × AllByRecursion (λ a. t.clock ≤ a.due) t.alarms
 
 -- the open transmissions are in the order of their numbers, and no number is above that of the last grant
 abbrev pub Rise : ℕ → List Transmission → Type 0
 Rise n [] = Unit {0}
-Rise n (x ∷ xs) = (x.number ≤ n) × All (λ y. x.number < y.number) xs × Rise n xs
+Rise n (x ∷ xs) = (x.number ≤ n) × AllByRecursion (λ y. x.number < y.number) xs × Rise n xs
 
 abbrev pub NumbersRise : Tables → Type 0
 NumbersRise t = Rise t.granted t.transmissions

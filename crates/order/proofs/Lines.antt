@@ -1,6 +1,6 @@
 -- A newcomer's place, and what the two laws make of it.
 use Rattle.std.proofs.Common.{◌≡◌, ℕ, zero, suc, ◌+◌, ◌<◌, ◌≤◌, Bool, true, false, List, [], ◌∷◌, length, get_or, take, drop, sym, ap, ◌∙◌, subst, inl, inr, one-add, arith, length-append, length-drop, length-take}
-use Rattle.std.specs.List.{insert as inserted, remove, AllByRecursion as All}
+use Rattle.std.specs.List.{insert as inserted, remove, AllByRecursion}
 use Rattle.std.proofs.lemmas.List.Sums.{prefix_len-drop_yes, prefix_len-drop_no, prefix_len-drop_all}
 use Rattle.std.proofs.lemmas.Bool.{cond_both, cases_Bool}
 use Rattle.std.proofs.ByRecursion.{All-weaker, All-append, All-take, All-drop}
@@ -35,7 +35,7 @@ module _ {X : Type 0} (cmp : X → X → Standing) (x : X) (xs : List X) where
   end i up to inv = omega (arith, inv, prefix_len-drop_all (λ z. not_behind (cmp z x)) xs i to)
 
 -- what holds of a newcomer and of all in line holds of the line with it
-pub All-inserted : {X : Type 0} (P : X → Type 0) (k : ℕ) (x : X) (xs : List X) → P x → All P xs → All P (inserted xs k x)
+pub All-inserted : {X : Type 0} (P : X → Type 0) (k : ℕ) (x : X) (xs : List X) → P x → AllByRecursion P xs → AllByRecursion P (inserted xs k x)
 All-inserted P k x xs p ps = All-append P (take k xs) (x ∷ drop k xs) (All-take P k xs ps) (p, All-drop P k xs ps)
 
 -- from the two laws
@@ -52,7 +52,7 @@ module _ {S X : Type 0} (standing : S → X → X → Standing) (laws : Laws sta
       ((first, All-weaker (λ z. cmp y z ≡ Behind → ⊥) (λ z. cmp x z ≡ Behind → ⊥) (λ z h. laws.chained o x y z first h) ys s.0), s))
 
   -- what comes after one that is behind x is behind x too
-  all_behind : (x y : X) (ys : List X) → standing o y x ≡ Behind → All (λ z. standing o y z ≡ Behind → ⊥) ys → All (λ z. standing o z x ≡ Behind) ys
+  all_behind : (x y : X) (ys : List X) → standing o y x ≡ Behind → AllByRecursion (λ z. standing o y z ≡ Behind → ⊥) ys → AllByRecursion (λ z. standing o z x ≡ Behind) ys
   all_behind x y ys e = All-weaker (λ z. standing o y z ≡ Behind → ⊥) (λ z. standing o z x ≡ Behind)
       (λ z h. elim (cases_Bool (not_behind (standing o z x))) [ inl t ↦ absurd (laws.chained o y z x h (isnt_behind (standing o z x) t) e) | inr f ↦ is_behind _ f ]) ys
 

@@ -6,7 +6,7 @@
 -- at_place, without       the one at a place, and the line without it
 -- lined, laid             the line that a slice holds, and the slice with a line laid over its first places
 use Rattle.std.specs.Prelude.{◌≡◌, ℕ, zero, suc, ◌+◌, cond, List, [], ◌∷◌, ◌++◌, length, take, drop, Some, None, Option, ◌≢◌, nat_lt}
-use Rattle.std.specs.List.{prefix_len, insert as inserted, remove, AllByRecursion as All, slice_get}
+use Rattle.std.specs.List.{prefix_len, insert as inserted, remove, AllByRecursion, slice_get}
 use Rattle.order.specs.Standings.{not_behind}
 use Rattle.order.specs.declared.standing.Standing.{Standing}
 use Rattle.order.specs.declared.standing.Standing.TheVariants.{Behind}
@@ -23,11 +23,11 @@ insert cmp x xs = inserted xs (place_of cmp x xs) x
 -- no one is behind another that comes after it
 abbrev pub Ordered : {X : Type 0} → (X → X → Standing) → List X → Type 0
 Ordered cmp [] = Unit {0}
-Ordered cmp (x ∷ xs) = All (λ y. cmp x y ≢ Behind) xs × Ordered cmp xs
+Ordered cmp (x ∷ xs) = AllByRecursion (λ y. cmp x y ≢ Behind) xs × Ordered cmp xs
 
 -- the first k are ahead of x or level with it, and all others are behind it
 abbrev pub Amid : {X : Type 0} → (X → X → Standing) → X → ℕ → List X → Type 0
-Amid cmp x k xs = All (λ y. cmp y x ≢ Behind) (take k xs) × All (λ y. cmp y x ≡ Behind) (drop k xs)
+Amid cmp x k xs = AllByRecursion (λ y. cmp y x ≢ Behind) (take k xs) × AllByRecursion (λ y. cmp y x ≡ Behind) (drop k xs)
 
 -- if one of the n places is free, x takes its place in line; else nothing changes
 abbrev pub joined : {X : Type 0} → ℕ → (X → X → Standing) → X → List X → List X
