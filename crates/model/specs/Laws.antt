@@ -1,10 +1,10 @@
 -- What holds of every event, in the words of the subject. Cited by the arbiter's `handle`, beside `step`.
 --
--- acts_of         the acts of an answer, in their order
--- no_effect       a refusal, or an answer with a resend or a reject
--- asks_again      a position, or a request of a camera that waits
+-- acts_of        the acts of an answer, in their order
+-- no_effect      a refusal, or an answer with a resend or a reject
+-- asks_again     a position, or a request of a camera that waits
 -- StandsAt       a camera's claim has its place in the line
--- Newcomer        the place of a claim that joins the line
+-- Newcomer       the place of a claim that joins the line
 -- KeepsTime      how an event moves the clock, and which alarm acts
 -- InLine         the claims are in order
 -- OnTime         the alarms are in order, and none is overdue
