@@ -4,8 +4,9 @@
 -- Ordered, Amid           a line in order, and who stands in front of a newcomer and who behind it
 -- joined, told, appended  the line after a newcomer, what the newcomer is told, and the line after one that stands last
 -- at_place, without       the one at a place, and the line without it
+-- put_at                  the line with another in the place of the one at a place
 -- lined, laid             the line that a slice holds, and the slice with a line laid over its first places
-use Rattle.std.specs.Prelude.{◌≡◌, ℕ, zero, suc, ◌+◌, cond, List, [], ◌∷◌, ◌++◌, length, take, drop, Some, None, Option, ◌≢◌, nat_lt}
+use Rattle.std.specs.Prelude.{◌≡◌, ℕ, zero, suc, ◌+◌, cond, List, [], ◌∷◌, ◌++◌, length, take, drop, Some, None, Option, ◌≢◌, nat_lt, slice_set}
 use Rattle.std.specs.List.{prefix_len, insert as inserted, remove, AllByRecursion, slice_get}
 use Rattle.order.specs.Standings.{not_behind}
 use Rattle.order.specs.declared.standing.Standing.{Standing}
@@ -50,6 +51,11 @@ at_place (suc k) xs = slice_get xs k
 abbrev pub without : {X : Type 0} → ℕ → List X → List X
 without zero xs = xs
 without (suc k) xs = remove xs k
+
+-- the line with x in the place of that one; where nobody stands there, nothing changes
+abbrev pub put_at : {X : Type 0} → ℕ → X → List X → List X
+put_at zero x xs = xs
+put_at (suc k) x xs = slice_set xs k x
 
 -- those in line: a line that counts more than it has places has all of them
 abbrev pub lined : {X : Type 0} → Line → List X → List X

@@ -4,3 +4,4 @@
 pub mod line;
 pub mod ordering;
 pub mod standing;
+pub mod table;

@@ -2,7 +2,10 @@
 ghost use Rattle.std.specs.Prelude.{◌≡◌};
 ghost use Rattle.order.specs.Standings.{not_behind, in_turn, higher_first};
 
-#[derive(Clone, Copy)]
+use std::cmp;
+
+// Not `std::cmp::Ordering`, whose `Less` and `Greater` would have to be read as ahead or behind at each place.
+#[derive(Clone, Copy, Debug, PartialEq, Eq)]
 pub enum Standing {
     Ahead,
     Level,
@@ -14,20 +17,16 @@ impl Standing {
     pub fn not_behind(self) -> bool
         ensures test { result ≡ not_behind self }
     {
-        match self {
-            Standing::Ahead | Standing::Level => true,
-            Standing::Behind => false,
-        }
+        self != Standing::Behind
     }
 
-    // This standing, and where it is level the next.
+    // This standing, and where it is level the next: what the library's `then` is to its order, for this enum.
     pub fn then(self, next: Standing) -> Standing
         ensures value { result ≡ in_turn self next }
     {
         match self {
-            Standing::Ahead => Standing::Ahead,
             Standing::Level => next,
-            Standing::Behind => Standing::Behind,
+            Standing::Ahead | Standing::Behind => self,
         }
     }
 }
@@ -36,11 +35,9 @@ impl Standing {
 pub fn higher_first(a: u32, b: u32) -> Standing
     ensures value { result ≡ higher_first a b }
 {
-    if a > b {
-        Standing::Ahead
-    } else if a < b {
-        Standing::Behind
-    } else {
-        Standing::Level
+    match a.cmp(&b) {
+        cmp::Ordering::Greater => Standing::Ahead,
+        cmp::Ordering::Equal => Standing::Level,
+        cmp::Ordering::Less => Standing::Behind,
     }
 }
