@@ -6,14 +6,15 @@ use order::ordering::Ordering;
 use order::standing::{Standing, higher_first};
 
 // What an alarm limits: the time to talk, or the grace after a recall.
-#[derive(Clone, Copy)]
+#[derive(Clone, Copy, Debug, Default, PartialEq, Eq)]
 pub enum AlarmKind {
+    #[default]
     Talk,
     Grace,
 }
 
 // A timer that is due at a second, for the grant of a number.
-#[derive(Clone, Copy)]
+#[derive(Clone, Copy, Debug, Default, PartialEq, Eq)]
 pub struct Alarm {
     pub due: u32,
     pub grant: u16,
@@ -21,7 +22,7 @@ pub struct Alarm {
 }
 
 // The earlier is ahead.
-#[derive(Clone, Copy)]
+#[derive(Clone, Copy, Debug, Default, PartialEq, Eq)]
 pub struct ByDue;
 
 impl Ordering for ByDue {

@@ -6,7 +6,7 @@ use order::ordering::Ordering;
 use order::standing::Standing;
 
 // A waiting camera, by its SSRC, with the ground of its request.
-#[derive(Clone, Copy)]
+#[derive(Clone, Copy, Debug, Default, PartialEq, Eq)]
 pub struct Claim {
     pub camera: u32,
     pub ground: Ground,

@@ -8,7 +8,7 @@ use order::ordering::Ordering;
 use order::standing::Standing;
 
 // The grade of each priority.
-#[derive(Clone, Copy)]
+#[derive(Clone, Copy, Debug, PartialEq, Eq)]
 pub struct GradeTable {
     pub grades: [u8; 256],
 }
@@ -19,13 +19,13 @@ impl GradeTable {
         ensures value { result ≡ regraded self.now ground.now }
     {
         Ground {
-            kind: ground.kind,
-            priority: self.grades[ground.priority as usize],
+            priority: self.grades[usize::from(ground.priority)],
+            ..*ground
         }
     }
 }
 
-#[derive(Clone, Copy)]
+#[derive(Clone, Copy, Debug, PartialEq, Eq)]
 pub struct Graded<R> {
     pub below: R,
     pub table: GradeTable,

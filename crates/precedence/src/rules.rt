@@ -8,7 +8,7 @@ use order::ordering::Ordering;
 use order::standing::{Standing, higher_first};
 
 // The higher priority is ahead.
-#[derive(Clone, Copy)]
+#[derive(Clone, Copy, Debug, Default, PartialEq, Eq)]
 pub struct Plain;
 
 impl Ordering for Plain {
@@ -19,12 +19,12 @@ impl Ordering for Plain {
     ghost laws = { by_higher (λ g. g.priority) };
 
     fn compare(&self, a: &Ground, b: &Ground) -> Standing {
-        higher_first(u32::from(a.priority), u32::from(b.priority))
+        higher_first(a.priority.into(), b.priority.into())
     }
 }
 
 // The higher kind is ahead, and of one kind the higher priority.
-#[derive(Clone, Copy)]
+#[derive(Clone, Copy, Debug, Default, PartialEq, Eq)]
 pub struct Urgent;
 
 impl Ordering for Urgent {
@@ -35,7 +35,7 @@ impl Ordering for Urgent {
     ghost laws = { by_turns _ _ (by_higher (λ g. kind_number g.kind)) (by_higher (λ g. g.priority)) };
 
     fn compare(&self, a: &Ground, b: &Ground) -> Standing {
-        let by_kind = higher_first(u32::from(a.kind.number()), u32::from(b.kind.number()));
+        let by_kind = higher_first(u8::from(a.kind).into(), u8::from(b.kind).into());
         by_kind.then(Plain.compare(a, b))
     }
 }
