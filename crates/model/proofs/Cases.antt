@@ -1,6 +1,6 @@
 -- The cases of each event. What holds of every outcome holds of the step: the tests and the look-ups that lead to an
 -- outcome are gone through once, here, and a law is shown outcome by outcome.
-use Rattle.std.proofs.Common.{◌≡◌, ℕ, ◌+◌, ◌<◌, ◌≤◌, cond, eqb, ltb, leb, length, Some, None, Option, refl, subst, arith}
+use Rattle.std.proofs.Common.{◌≡◌, ℕ, ◌+◌, ◌<◌, ◌≤◌, cond, eqb, ltb, leb, length, Some, None, Option, refl, subst, arith, find}
 use Rattle.std.proofs.lemmas.Bool.{cond_both, ltb-true, ltb-false, leb-true, leb-false}
 use Rattle.order.specs.Lines.{at_place, appended}
 use Rattle.precedence.specs.Grounds.{kind_of}
@@ -17,7 +17,7 @@ use Rattle.model.specs.State.{Compare, State, with_members}
 use Rattle.model.specs.Step.{may_not_join, admit, join_as, leave_idle, leave_waiting, leave_open, cancel_claim, in_state, if_member, of_member, by_class, by_kind_of, request_by, request_of}
 use Rattle.model.specs.Tables.{class_of}
 use Rattle.model.specs.Transmissions.{grant_to, grant_acts, next_grant, end_of}
-use Rattle.model.specs.Words.{first_that, place_of_first}
+use Rattle.model.specs.Words.{place_of_first}
 use Rattle.model.specs.declared.acts.Act.TheVariants.{Queued, Reject}
 use Rattle.model.specs.declared.acts.Acts.TheVariants.{Zero}
 use Rattle.model.specs.declared.causes.EndCause.TheVariants as end
@@ -30,8 +30,7 @@ use Rattle.model.specs.declared.refusals.Refusal.TheVariants.{BadJoin, CallFull,
 use Rattle.model.specs.declared.tables.Class.{Class}
 use Rattle.model.specs.declared.tables.Class.TheVariants.{ReceiveOnly, MayTransmit}
 use Rattle.model.specs.declared.tables.Member.{Member}
-use Rattle.model.specs.declared.tables.Phase.{Phase}
-use Rattle.model.specs.declared.tables.Phase.TheVariants as phase
+use Rattle.model.specs.declared.causes.RecallCause.{RecallCause}
 use Rattle.model.specs.declared.tables.Transmission.{Transmission}
 
 -- the outcomes of a camera's event
@@ -103,17 +102,17 @@ module _ (cmp : Compare) (s : State) (P : State × Answer → Type 0) where
 
   -- the camera's state, as it is looked up, and the event together
 
-  open_cases : (c : ℕ) (e : CameraEvent) (x : Transmission) (p : Phase) → Outcomes cmp s P c e → P (in_state cmp s c (by_phase x p) e)
-  open_cases c its.Leave x phase.Standing o = o.left_open refl x
-  open_cases c its.Leave x (phase.Recalled cause) o = o.left_open refl x
-  open_cases c (its.Request ground) x phase.Standing o = o.resent x
-  open_cases c (its.Request ground) x (phase.Recalled cause) o = o.rejected (reject.Recalled cause)
-  open_cases c its.Release x phase.Standing o = o.released refl x
-  open_cases c its.Release x (phase.Recalled cause) o = o.released refl x
-  open_cases c its.Cancel x phase.Standing o = o.refused NotWaiting
-  open_cases c its.Cancel x (phase.Recalled cause) o = o.refused NotWaiting
-  open_cases c its.Position x phase.Standing o = o.refused NotWaiting
-  open_cases c its.Position x (phase.Recalled cause) o = o.refused NotWaiting
+  open_cases : (c : ℕ) (e : CameraEvent) (x : Transmission) (recall : Option RecallCause) → Outcomes cmp s P c e → P (in_state cmp s c (by_phase x recall) e)
+  open_cases c its.Leave x None o = o.left_open refl x
+  open_cases c its.Leave x (Some cause) o = o.left_open refl x
+  open_cases c (its.Request ground) x None o = o.resent x
+  open_cases c (its.Request ground) x (Some cause) o = o.rejected (reject.Recalled cause)
+  open_cases c its.Release x None o = o.released refl x
+  open_cases c its.Release x (Some cause) o = o.released refl x
+  open_cases c its.Cancel x None o = o.refused NotWaiting
+  open_cases c its.Cancel x (Some cause) o = o.refused NotWaiting
+  open_cases c its.Position x None o = o.refused NotWaiting
+  open_cases c its.Position x (Some cause) o = o.refused NotWaiting
 
   line_cases : (c : ℕ) (e : CameraEvent) (place : Option ℕ) → place_of_first (claim_of c) s.tables.claims ≡ place → Outcomes cmp s P c e → P (in_state cmp s c (by_claim place) e)
   line_cases c its.Leave None is o = o.left refl
@@ -129,17 +128,17 @@ module _ (cmp : Compare) (s : State) (P : State × Answer → Type 0) where
 
   state_cases : (c : ℕ) (e : CameraEvent) (x : Option Transmission) → Outcomes cmp s P c e → P (in_state cmp s c (by_transmission x (place_of_first (claim_of c) s.tables.claims)) e)
   state_cases c e None o = line_cases c e (place_of_first (claim_of c) s.tables.claims) refl o
-  state_cases c e (Some x) o = open_cases c e x x.phase o
+  state_cases c e (Some x) o = open_cases c e x x.recall o
 
   its_cases : (c : ℕ) (e : CameraEvent) → Outcomes cmp s P c e → P (in_state cmp s c (state_of_camera s.tables c) e)
-  its_cases c e o = state_cases c e (first_that (transmission_of c) s.tables.transmissions) o
+  its_cases c e o = state_cases c e (find (transmission_of c) s.tables.transmissions) o
 
   if_cases : (c : ℕ) (e : CameraEvent) (m : Option Member) → Outcomes cmp s P c e → P (if_member cmp s c e m)
   if_cases c e None o = o.refused NotInCall
   if_cases c e (Some m) o = its_cases c e o
 
   pub camera_cases : (c : ℕ) (e : CameraEvent) → Outcomes cmp s P c e → P (of_member cmp s c e)
-  camera_cases c e o = if_cases c e (first_that (is_member c) s.tables.members) o
+  camera_cases c e o = if_cases c e (find (is_member c) s.tables.members) o
 
   -- a request, on a ground of a kind that there is
 
@@ -159,7 +158,7 @@ module _ (cmp : Compare) (s : State) (P : State × Answer → Type 0) where
   member_cases c number priority (Some m) refused o = kind_cases c m.class number priority (kind_of number) refl refused o
 
   pub request_cases : (c number priority : ℕ) → ((why : Refusal) → P (refused_for s why)) → Asked c number priority → P (request_of cmp s c number priority)
-  request_cases c number priority refused o = member_cases c number priority (first_that (is_member c) s.tables.members) refused o
+  request_cases c number priority refused o = member_cases c number priority (find (is_member c) s.tables.members) refused o
 
 module _ (s : State) (P : State × Answer → Type 0) where
   -- joining

@@ -1,6 +1,6 @@
 -- What holds of every event, of `step`.
 use Rattle.std.proofs.Common.{◌≡◌, ℕ, ◌+◌, ◌≤◌, Bool, true, false, length, Some, None, Ok, Err, Option, sym, refl, ap, subst, arith}
-use Rattle.std.specs.List.{AllByRecursion}
+use Rattle.std.specs.List.{AllByRecursion, list_any}
 use Rattle.std.proofs.lemmas.Bool.{both_ways, false≢true}
 use Rattle.order.specs.Laws.{Laws}
 use Rattle.order.specs.Lines.{Ordered, at_place, place_of, insert}
@@ -18,7 +18,6 @@ use Rattle.model.specs.Requests.{by_ground, queued_acts, wait_for}
 use Rattle.model.specs.State.{Compare, Tables, State, with_claims}
 use Rattle.model.specs.Step.{request_of, step}
 use Rattle.model.specs.Transmissions.{grant_to, grant_acts, next_grant}
-use Rattle.model.specs.Words.{has}
 use Rattle.model.specs.declared.acts.Act.TheVariants.{Queued}
 use Rattle.model.specs.declared.acts.Acts.{Acts}
 use Rattle.model.specs.declared.acts.Acts.TheVariants.{Zero, One, Two, Three}
@@ -62,10 +61,10 @@ module _ (cmp : Compare) (s : State) (c : ℕ) where
   Same x = x.0 ≡ s
 
   -- a camera that waits does not come anew
-  waits_already : (P : Type 0) → has (claim_of c) s.tables.claims ≡ true → WaitsNot s c → P
+  waits_already : (P : Type 0) → list_any (claim_of c) s.tables.claims ≡ true → WaitsNot s c → P
   waits_already P waits none = absurd (both_ways _ (not_found (claim_of c) s.tables.claims (sym none)) waits)
 
-  again : (ground : Ground) → has (claim_of c) s.tables.claims ≡ true → Outcomes cmp s Same c (its.Request ground)
+  again : (ground : Ground) → list_any (claim_of c) s.tables.claims ≡ true → Outcomes cmp s Same c (its.Request ground)
   again ground waits =
       asked_outcomes cmp s Same c ground (λ _. refl) (λ _. refl) (λ _. refl) (λ _ _. refl)
       (waits_already (Same (accepted_with (grant_to s c ground, grant_acts (next_grant s.tables c)))) waits)
@@ -122,14 +121,14 @@ module _ {S : Type 0} (standing : S → Ground → Ground → Standing) (laws : 
       joins t' place (its_place ground) (ap (λ k. k + 1) (place_counts standing laws o w t.claims ordered)) (at_place (recalls t'.transmissions + 1) t'.claims)
 
   -- a camera that does not wait is told no place but this
-  newcomer : (ground : Ground) → Ordered (by_ground (standing o)) s.tables.claims → has (claim_of c) s.tables.claims ≡ false → Outcomes (standing o) s (Told (its_place ground)) c (its.Request ground)
+  newcomer : (ground : Ground) → Ordered (by_ground (standing o)) s.tables.claims → list_any (claim_of c) s.tables.claims ≡ false → Outcomes (standing o) s (Told (its_place ground)) c (its.Request ground)
   newcomer ground ordered none =
       asked_outcomes (standing o) s (Told (its_place ground)) c ground (λ _. tt) (λ _. (tt, tt)) (λ _. (tt, tt))
       (λ k is. absurd (both_ways _ none (at_found (claim_of c) s.tables.claims k (sym is)).0))
       (λ _. (tt, (tt, tt)))
       (λ _. comes ground ordered)
 
-  told_newcomer : (number priority : ℕ) (kind : Kind) → kind_of number ≡ Some kind → has (claim_of c) s.tables.claims ≡ false → Ordered (by_ground (standing o)) s.tables.claims → Told (its_place (record { kind = kind; priority = priority })) (request_of (standing o) s c number priority)
+  told_newcomer : (number priority : ℕ) (kind : Kind) → kind_of number ≡ Some kind → list_any (claim_of c) s.tables.claims ≡ false → Ordered (by_ground (standing o)) s.tables.claims → Told (its_place (record { kind = kind; priority = priority })) (request_of (standing o) s c number priority)
   told_newcomer number priority kind is none ordered =
       let place = its_place (record { kind = kind; priority = priority }) in
       request_cases (standing o) s (Told place) c number priority (λ _. tt)

@@ -1,5 +1,4 @@
 pub mod Words
-pub mod Rows
 pub mod Preemption
 pub mod Places
 pub mod Cases

@@ -1,5 +1,5 @@
 -- Claims, alarms and transmissions in order stay in order, and no alarm gets overdue.
-use Rattle.std.proofs.Common.{◌≡◌, ℕ, ◌+◌, ◌<◌, ◌≤◌, max, Bool, ltb, List, [], ◌∷◌, length, Some, None, Option, refl, subst, arith}
+use Rattle.std.proofs.Common.{◌≡◌, ℕ, ◌+◌, ◌<◌, ◌≤◌, max, Bool, ltb, List, [], ◌∷◌, length, Some, None, Option, refl, subst, arith, find}
 use Rattle.std.specs.List.{insert as inserted, AllByRecursion}
 use Rattle.std.proofs.lemmas.Bool.{cond_both}
 use Rattle.order.specs.Laws.{Laws}
@@ -23,7 +23,7 @@ use Rattle.model.specs.Requests.{by_ground, wait_for}
 use Rattle.model.specs.State.{Compare, Tables, State, with_clock, with_claims, with_tables}
 use Rattle.model.specs.Step.{step}
 use Rattle.model.specs.Transmissions.{grant_to, promote, close_grant, recalled_for, recall_of}
-use Rattle.model.specs.Words.{first_that, without_first, change_first}
+use Rattle.model.specs.Words.{without_first, change_first}
 use Rattle.model.specs.declared.causes.EndCause.{EndCause}
 use Rattle.model.specs.declared.causes.EndCause.TheVariants as end
 use Rattle.model.specs.declared.causes.RecallCause.{RecallCause}
@@ -32,7 +32,6 @@ use Rattle.model.specs.declared.events.CameraEvent.{CameraEvent}
 use Rattle.model.specs.declared.events.CameraEvent.TheVariants as its
 use Rattle.model.specs.declared.events.Event.{Event}
 use Rattle.model.specs.declared.events.Event.TheVariants.{Join, Leave, Request, Release, Cancel, Position, Clock}
-use Rattle.model.specs.declared.tables.Phase.TheVariants as phase
 use Rattle.model.specs.declared.tables.Transmission.{Transmission}
 use Rattle.model.proofs.Cases.{Outcomes, camera_cases, request_cases, join_cases, clock_cases}
 use Rattle.model.proofs.Timely.{none_before, none_there}
@@ -120,7 +119,7 @@ module _ {S : Type 0} (standing : S → Ground → Ground → Standing) (laws : 
       record {
         in_line = λ h. h;
         on_time = set_fine t.clock t.settings.talk (t.granted + 1) Talk t.alarms;
-        numbers_rise = rise_next t.granted (record { number = t.granted + 1; camera = c; ground = ground; phase = phase.Standing }) t.transmissions refl;
+        numbers_rise = rise_next t.granted (record { number = t.granted + 1; camera = c; ground = ground; recall = None }) t.transmissions refl;
       }
 
   promotes : (s : State) (w : Option Claim) → Keeps (standing o) s.tables (promote s w).0.tables
@@ -207,7 +206,7 @@ module _ {S : Type 0} (standing : S → Ground → Ground → Standing) (laws : 
       let t = s.tables in
       let now = max t.clock a.due in
       let s' = with_tables s (with_clock t now) in
-      let x = first_that (numbered a.grant) t.transmissions in
+      let x = find (numbered a.grant) t.transmissions in
       let moves : Keeps (standing o) t s'.tables = record {
         in_line = λ h. h;
         on_time = λ h. let due = first_due t.clock t.alarms a first h.1 in (h.0, none_before (λ n. now ≤ n) a t.alarms first h.0 (λ n le. omega arith));

@@ -1,9 +1,9 @@
 -- The one at a place, who stands before it and who after, and how many are ahead of a newcomer or level with it.
 use Rattle.std.proofs.Common.{◌≡◌, ℕ, zero, suc, ◌+◌, ◌-◌, ◌≤◌, Bool, true, false, cond, ◌||◌, List, [], ◌∷◌, length, take, drop, Some, None, count_by, sym, refl, ap, ◌∙◌, subst, inl, inr, add-one, arith, length-take}
-use Rattle.std.specs.List.{insert as inserted, AllByRecursion, slice_get}
+use Rattle.std.specs.List.{insert as inserted, AllByRecursion, slice_get, list_any, position_or_len}
 use Rattle.std.proofs.ByRecursion.{All-weaker}
 use Rattle.std.proofs.lemmas.List.Sums.{sum_by-take-drop, sum_by-cons, prefix_len-le-length}
-use Rattle.std.proofs.lemmas.Bool.{cases_Bool, cond-true, cond-false, false≢true, eqb-true}
+use Rattle.std.proofs.lemmas.Bool.{cases_Bool, cond-false, false≢true, eqb-true}
 use Rattle.order.specs.Laws.{Laws}
 use Rattle.order.specs.Lines.{Ordered, insert, place_of}
 use Rattle.order.specs.Standings.{not_behind, is_ahead, is_level}
@@ -17,8 +17,8 @@ use Rattle.model.specs.Laws.{StandsAt, ahead_of, level_with}
 use Rattle.model.specs.Lookups.{claim_of}
 use Rattle.model.specs.Requests.{by_ground}
 use Rattle.model.specs.State.{Compare}
-use Rattle.model.specs.Words.{has, until, place_of_first}
-use Rattle.model.proofs.Words.{at_found}
+use Rattle.model.specs.Words.{place_of_first}
+use Rattle.model.proofs.Words.{none_before, one_before, at_found}
 
 -- two constructors differ
 none_some : {X : Type 0} (x : X) → None ≡ Some x → ⊥
@@ -91,17 +91,14 @@ module _ (cmp : Compare) (one : LawOne cmp) where
       })
 
 -- the first that passes, at its place
-first_at : {X : Type 0} (p : X → Bool) (xs : List X) → has p xs ≡ true → (x : X) × (slice_get xs (until p xs) ≡ Some x) × (p x ≡ true)
+first_at : {X : Type 0} (p : X → Bool) (xs : List X) → list_any p xs ≡ true → (x : X) × (slice_get xs (position_or_len p xs) ≡ Some x) × (p x ≡ true)
 first_at p [] some = absurd (false≢true some)
 first_at {X} p (x ∷ xs) some = elim (cases_Bool (p x)) [
-  | inl is ↦
-      let n : until p (x ∷ xs) ≡ 0 = cond-true (p x) 0 (until p xs + 1) is in
-      (x, ap (slice_get (x ∷ xs)) n, is)
+  | inl is ↦ (x, ap (slice_get (x ∷ xs)) (none_before p x xs is), is)
   | inr isnt ↦
-      let n : until p (x ∷ xs) ≡ suc (until p xs) = cond-false (p x) 0 (until p xs + 1) isnt ∙ add-one (until p xs) in
-      let rest : has p xs ≡ true = sym (ap (λ b. b || has p xs) isnt) ∙ some in
+      let rest : list_any p xs ≡ true = sym (ap (λ b. b || list_any p xs) isnt) ∙ some in
       let t = first_at p xs rest in
-      (t.0, ap (slice_get (x ∷ xs)) n ∙ t.1, t.2)
+      (t.0, ap (slice_get (x ∷ xs)) (one_before p x xs isnt) ∙ t.1, t.2)
 ]
 
 nth_inserted : {X : Type 0} (xs : List X) (k : ℕ) (x : X) → k ≤ length xs → slice_get (inserted xs k x) k ≡ Some x
@@ -115,7 +112,7 @@ module _ (cmp : Compare) (one : LawOne cmp) where
   waits_at camera n line e =
       let found = at_found (claim_of camera) line n (sym e) in
       let t = first_at (claim_of camera) line found.0 in
-      stands_at cmp one camera (until (claim_of camera) line) n line t.0 (found.1 ∙ add-one (until (claim_of camera) line)) t.1 (eqb-true t.0.camera camera t.2)
+      stands_at cmp one camera (position_or_len (claim_of camera) line) n line t.0 (found.1 ∙ add-one (position_or_len (claim_of camera) line)) t.1 (eqb-true t.0.camera camera t.2)
 
   -- a newcomer is at the place that it is told
   pub enters_at : (w : Claim) (line : List Claim) → StandsAt cmp w.camera (place_of (by_ground cmp) w line + 1) (insert (by_ground cmp) w line)

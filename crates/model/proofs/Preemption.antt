@@ -1,7 +1,6 @@
--- Pre-emption: the loops over the open transmissions, and why it is enough to look at the last in precedence.
-use Rattle.std.proofs.Common.{◌≡◌, ℕ, ◌+◌, ◌<◌, Bool, true, false, cond, not, ◌&&◌, ◌||◌, List, [], ◌∷◌, length, get_or, take, Some, None, fold, Option, sym, refl, ap, ◌∙◌, inl, inr}
-use Rattle.std.proofs.lemmas.List.Sums.{count_by_more_yes, count_by_more_no}
-use Rattle.std.proofs.lemmas.Bool.{cases_Bool, cond-true, cond-false, both_ways, not-true, not_from_true, not_from_false}
+-- Pre-emption: why it is enough to look at the last in precedence.
+use Rattle.std.proofs.Common.{◌≡◌, Bool, true, false, cond, not, ◌&&◌, ◌||◌, List, [], ◌∷◌, Some, None, fold, Option, sym, refl, ap, ◌∙◌, inl, inr}
+use Rattle.std.proofs.lemmas.Bool.{cases_Bool, cond-true, cond-false, both_ways, not-true, not_from_false}
 use Rattle.order.specs.Laws.{Laws}
 use Rattle.order.specs.Standings.{not_behind, is_ahead}
 use Rattle.order.specs.declared.standing.Standing.{Standing}
@@ -10,21 +9,12 @@ use Rattle.order.proofs.Orderings.{mirrored, chain}
 use Rattle.precedence.specs.declared.claims.Claim.{Claim}
 use Rattle.precedence.specs.declared.grounds.Ground.{Ground}
 use Rattle.precedence.specs.declared.grounds.Kind.TheVariants.{Normal}
-use Rattle.model.specs.Preemption.{stands, recalls, later_of, later_standing, last_standing, ahead_of_some, pre_empted_by}
-use Rattle.model.specs.declared.tables.Phase.TheVariants as phase
+use Rattle.model.specs.Preemption.{stands, later_of, later_standing, last_standing, ahead_of_some, pre_empted_by}
 use Rattle.model.specs.declared.tables.Transmission.{Transmission}
 
 -- what is read where there is no transmission
 abbrev pub nothing : Transmission
-nothing = record { number = 0; camera = 0; ground = record { kind = Normal; priority = 0 }; phase = phase.Standing }
-
--- the loop that counts those under recall
-
-pub count_more : (xs : List Transmission) (i n m : ℕ) → i < length xs → n ≡ recalls (take i xs) → stands (get_or xs i nothing) ≡ false → m ≡ n + 1 → m ≡ recalls (take (i + 1) xs)
-count_more xs i n m lt inv isnt next = next ∙ ap (λ k. k + 1) inv ∙ sym (count_by_more_yes (λ x. not (stands x)) xs i nothing lt (not_from_false _ isnt))
-
-pub count_same : (xs : List Transmission) (i n m : ℕ) → i < length xs → n ≡ recalls (take i xs) → stands (get_or xs i nothing) ≡ true → m ≡ n → m ≡ recalls (take (i + 1) xs)
-count_same xs i n m lt inv is next = next ∙ inv ∙ sym (count_by_more_no (λ x. not (stands x)) xs i nothing lt (not_from_true _ is))
+nothing = record { number = 0; camera = 0; ground = record { kind = Normal; priority = 0 }; recall = None }
 
 -- a or b is a, where b says no more than a
 or_same : (a b : Bool) → (b ≡ true → a ≡ true) → (a || b) ≡ a

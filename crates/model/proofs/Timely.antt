@@ -1,6 +1,6 @@
 -- What the clock keeps: it never goes back, it stops at the first alarm that is due, and that alarm alone acts.
-use Rattle.std.proofs.Common.{◌≡◌, ℕ, zero, suc, ◌+◌, ◌<◌, ◌≤◌, max, Bool, true, false, cond, ◌||◌, ltb, List, [], ◌∷◌, length, drop, Some, None, Option, sym, refl, ap, ◌∙◌, subst, inl, inr, arith}
-use Rattle.std.specs.List.{insert as inserted, AllByRecursion}
+use Rattle.std.proofs.Common.{◌≡◌, ℕ, zero, suc, ◌+◌, ◌<◌, ◌≤◌, max, Bool, true, false, cond, ◌||◌, ltb, List, [], ◌∷◌, length, drop, Some, None, Option, sym, refl, ap, ◌∙◌, subst, inl, inr, arith, find}
+use Rattle.std.specs.List.{insert as inserted, AllByRecursion, list_any}
 use Rattle.std.proofs.ByRecursion.{All-weaker}
 use Rattle.std.proofs.lemmas.Bool.{cases_lt, cases_Bool, cond_both, cond-true, cond-false, both_ways, or_left, or_from, lt-ltb, le-ltb, eqb-true, eq-eqb}
 use Rattle.order.specs.Lines.{Ordered, at_place, insert, joined, place_of}
@@ -17,7 +17,7 @@ use Rattle.model.specs.Laws.{no_effect, resend_or_reject, alarms_shown, ByTime, 
 use Rattle.model.specs.Lookups.{numbered, alarm_of}
 use Rattle.model.specs.State.{Compare, Tables, State, with_clock, with_tables}
 use Rattle.model.specs.Transmissions.{promote, close_grant, end_acts}
-use Rattle.model.specs.Words.{In, has, first_that, without_first}
+use Rattle.model.specs.Words.{In, without_first}
 use Rattle.model.specs.declared.acts.Act.TheVariants.{Ended}
 use Rattle.model.specs.declared.acts.Acts.{Acts}
 use Rattle.model.specs.declared.causes.EndCause.TheVariants as end
@@ -47,23 +47,23 @@ none_there P [] e = tt
 none_there P (x ∷ xs) e = absurd (let z : ◌≡◌ {A = ℕ} 0 1 = cc in omega arith)
 
 -- whether one passes, by the first that does
-missing : {X : Type 0} (p : X → Bool) (xs : List X) → first_that p xs ≡ None → has p xs ≡ false
+missing : {X : Type 0} (p : X → Bool) (xs : List X) → find p xs ≡ None → list_any p xs ≡ false
 missing p [] e = refl
 missing p (x ∷ xs) e = elim (cases_Bool (p x)) [
-  | inl is ↦ absurd (let f : Some x ≡ None = sym (cond-true (p x) (Some x) (first_that p xs) is) ∙ e in let z : ◌≡◌ {A = ℕ} 0 1 = cc in omega arith)
-  | inr isnt ↦ or_from (p x) (has p xs) isnt (missing p xs (sym (cond-false (p x) (Some x) (first_that p xs) isnt) ∙ e))
+  | inl is ↦ absurd (let f : Some x ≡ None = sym (cond-true (p x) (Some x) (find p xs) is) ∙ e in let z : ◌≡◌ {A = ℕ} 0 1 = cc in omega arith)
+  | inr isnt ↦ or_from (p x) (list_any p xs) isnt (missing p xs (sym (cond-false (p x) (Some x) (find p xs) isnt) ∙ e))
 ]
 
-present : {X : Type 0} (p : X → Bool) (xs : List X) (y : X) → first_that p xs ≡ Some y → (has p xs ≡ true) × (p y ≡ true)
+present : {X : Type 0} (p : X → Bool) (xs : List X) (y : X) → find p xs ≡ Some y → (list_any p xs ≡ true) × (p y ≡ true)
 present p [] y e = absurd (let z : ◌≡◌ {A = ℕ} 0 1 = cc in omega arith)
 present p (x ∷ xs) y e = elim (cases_Bool (p x)) [
   | inl is ↦
-      let f : Some x ≡ Some y = sym (cond-true (p x) (Some x) (first_that p xs) is) ∙ e in
+      let f : Some x ≡ Some y = sym (cond-true (p x) (Some x) (find p xs) is) ∙ e in
       let same : x ≡ y = cc in
-      (or_left (p x) (has p xs) is, ap p (sym same) ∙ is)
+      (or_left (p x) (list_any p xs) is, ap p (sym same) ∙ is)
   | inr isnt ↦
-      let rest = present p xs y (sym (cond-false (p x) (Some x) (first_that p xs) isnt) ∙ e) in
-      (ap (λ b. b || has p xs) isnt ∙ rest.0, rest.1)
+      let rest = present p xs y (sym (cond-false (p x) (Some x) (find p xs) isnt) ∙ e) in
+      (ap (λ b. b || list_any p xs) isnt ∙ rest.0, rest.1)
 ]
 
 -- the others stay when the first alarm is dropped, and when one is set
@@ -96,7 +96,7 @@ first_dropped a n (b ∷ bs) e its =
 record Expired (t : Tables) (shown : List (ℕ × AlarmKind)) (x : State × Acts) : Type 0 where
   stays : x.0.tables.clock ≡ t.clock
   shows : alarms_shown (listed x.1) ≡ shown
-  effect : has resend_or_reject (listed x.1) ≡ false
+  effect : list_any resend_or_reject (listed x.1) ≡ false
   by_time : AllByRecursion ByTime (listed x.1)
   places : (cmp : Compare) (line : List Claim) → AllByRecursion (ToldItsPlace cmp line) (listed x.1)
   others : AllByRecursion (λ a. In a x.0.tables.alarms) (drop 1 t.alarms)
@@ -131,14 +131,14 @@ kind s x Talk left = record {
 kind s x Grace left = ended s.tables (close_grant s x.number end.TimeOut) x.number x.camera (at_place 1 s.tables.claims) refl left
 
 abbrev shown_by : Alarm → Tables → List (ℕ × AlarmKind)
-shown_by a t = cond (has (numbered a.grant) t.transmissions) ((a.grant, a.kind) ∷ []) []
+shown_by a t = cond (list_any (numbered a.grant) t.transmissions) ((a.grant, a.kind) ∷ []) []
 
-expired_by : (s : State) (a : Alarm) (o : Option Transmission) → at_place 1 s.tables.alarms ≡ Some a → first_that (numbered a.grant) s.tables.transmissions ≡ o → Expired s.tables (shown_by a s.tables) (act_on s a o)
+expired_by : (s : State) (a : Alarm) (o : Option Transmission) → at_place 1 s.tables.alarms ≡ Some a → find (numbered a.grant) s.tables.transmissions ≡ o → Expired s.tables (shown_by a s.tables) (act_on s a o)
 expired_by s a None first e =
     let left = first_dropped a a.grant s.tables.alarms first refl in
     record {
       stays = refl;
-      shows = sym (cond-false (has (numbered a.grant) s.tables.transmissions) _ [] (missing (numbered a.grant) s.tables.transmissions e));
+      shows = sym (cond-false (list_any (numbered a.grant) s.tables.transmissions) _ [] (missing (numbered a.grant) s.tables.transmissions e));
       effect = refl;
       by_time = tt;
       places = λ cmp line. tt;
@@ -150,7 +150,7 @@ expired_by s a (Some x) first e =
     let it = kind s x a.kind (first_dropped a x.number s.tables.alarms first (sym same)) in
     record {
       stays = it.stays;
-      shows = it.shows ∙ ap (λ n. (n, a.kind) ∷ []) same ∙ sym (cond-true (has (numbered a.grant) s.tables.transmissions) ((a.grant, a.kind) ∷ []) [] found.0);
+      shows = it.shows ∙ ap (λ n. (n, a.kind) ∷ []) same ∙ sym (cond-true (list_any (numbered a.grant) s.tables.transmissions) ((a.grant, a.kind) ∷ []) [] found.0);
       effect = it.effect;
       by_time = it.by_time;
       places = it.places;
@@ -158,7 +158,7 @@ expired_by s a (Some x) first e =
     }
 
 expired : (s : State) (a : Alarm) → at_place 1 s.tables.alarms ≡ Some a → Expired s.tables (shown_by a s.tables) (expire_alarm s a)
-expired s a first = expired_by s a (first_that (numbered a.grant) s.tables.transmissions) first refl
+expired s a first = expired_by s a (find (numbered a.grant) s.tables.transmissions) first refl
 
 pub record AtSecond (cmp : Compare) (s : State) (to : ℕ) (x : State × Answer) : Type 0 where
   pub nothing_changes : no_effect x.1 ≡ true → x.0 ≡ s

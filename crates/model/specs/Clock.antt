@@ -1,10 +1,9 @@
 -- The clock, which stops at each alarm. Cited by `clock_to`.
-use Rattle.std.specs.Prelude.{ℕ, max, true, cond, Some, None, Ok, Option, nat_le, nat_lt}
+use Rattle.std.specs.Prelude.{ℕ, max, true, cond, Some, None, Ok, Option, nat_le, nat_lt, find}
 use Rattle.order.specs.Lines.{at_place}
 use Rattle.precedence.specs.declared.alarms.Alarm.{Alarm}
 use Rattle.precedence.specs.declared.alarms.AlarmKind.{AlarmKind}
 use Rattle.precedence.specs.declared.alarms.AlarmKind.TheVariants.{Talk, Grace}
-use Rattle.model.specs.Words.{first_that}
 use Rattle.model.specs.Lookups.{numbered}
 use Rattle.model.specs.Answers.{Answer, accepted_with, refused_for, rows_stay}
 use Rattle.model.specs.State.{Tables, State, with_clock, with_tables}
@@ -28,7 +27,7 @@ act_on s a (Some x) = act_by s x a.kind
 
 -- the alarm alone acts
 abbrev pub expire_alarm : State → Alarm → State × Acts
-expire_alarm s a = act_on s a (first_that (numbered a.grant) s.tables.transmissions)
+expire_alarm s a = act_on s a (find (numbered a.grant) s.tables.transmissions)
 
 -- the clock moves to the alarm's due second, unless it is past it already, and the reply says that there is more
 abbrev pub stop_at : State → Alarm → State × Answer

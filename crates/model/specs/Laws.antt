@@ -11,7 +11,7 @@
 -- NumbersRise    the open transmissions are in the order of their numbers
 -- LawfulEvent    all of this, of one event
 use Rattle.std.specs.Prelude.{◌≡◌, ℕ, ◌+◌, ◌-◌, ◌<◌, ◌≤◌, Bool, true, false, cond, ◌⊎◌, List, [], ◌∷◌, ◌++◌, length, take, drop, Some, Ok, Err, count_by}
-use Rattle.std.specs.List.{AllByRecursion}
+use Rattle.std.specs.List.{AllByRecursion, list_any}
 use Rattle.order.specs.Lines.{Ordered, at_place}
 use Rattle.order.specs.Standings.{is_ahead, is_level}
 use Rattle.precedence.specs.Grounds.{kind_of}
@@ -27,7 +27,7 @@ use Rattle.model.specs.Answers.{Answer}
 use Rattle.model.specs.Lookups.{claim_of, numbered}
 use Rattle.model.specs.Requests.{by_ground}
 use Rattle.model.specs.State.{Compare, Tables, State}
-use Rattle.model.specs.Words.{In, has}
+use Rattle.model.specs.Words.{In}
 use Rattle.model.specs.declared.acts.Act.{Act}
 use Rattle.model.specs.declared.acts.Act.TheVariants.{Grant, Notify, Resend, Queued, Reject, Revoke, Ended, Cancelled}
 use Rattle.model.specs.declared.acts.Acts.{Acts}
@@ -60,14 +60,14 @@ resend_or_reject (Cancelled camera) = false
 
 -- a refusal, or an answer with a resend or a reject
 abbrev pub no_effect : Answer → Bool
-no_effect (Ok reply) = has resend_or_reject (listed reply.acts)
+no_effect (Ok reply) = list_any resend_or_reject (listed reply.acts)
 no_effect (Err why) = true
 
 -- a position, or a request of a camera that waits
 abbrev pub asks_again : Tables → Event → Bool
 asks_again t (Join c class) = false
 asks_again t (Leave c) = false
-asks_again t (Request c kind priority) = has (claim_of c) t.claims
+asks_again t (Request c kind priority) = list_any (claim_of c) t.claims
 asks_again t (Release c) = false
 asks_again t (Cancel c) = false
 asks_again t (Position c) = true
@@ -121,7 +121,7 @@ abbrev pub Newcomer : Compare → Tables → Event → Answer → Type 0
 Newcomer cmp t (Join c class) answer = Unit {0}
 Newcomer cmp t (Leave c) answer = Unit {0}
 Newcomer cmp t (Request c number priority) answer =
-    (kind : Kind) → kind_of number ≡ Some kind → has (claim_of c) t.claims ≡ false → Ordered (by_ground cmp) t.claims
+    (kind : Kind) → kind_of number ≡ Some kind → list_any (claim_of c) t.claims ≡ false → Ordered (by_ground cmp) t.claims
     → let ground : Ground = record { kind = kind; priority = priority } in
     AllByRecursion (ToldPlace (ahead_of cmp ground t.claims + level_with cmp ground t.claims + 1)) (acts_of answer)
 Newcomer cmp t (Release c) answer = Unit {0}
@@ -138,7 +138,6 @@ by_recall n recall.TimeOut = (n, Talk) ∷ []
 by_recall n recall.PreEmption = []
 
 abbrev pub by_end : ℕ → EndCause → List (ℕ × AlarmKind)
-by_end n end.NotEnded = []
 by_end n end.Release = []
 by_end n end.TimeOut = (n, Grace) ∷ []
 by_end n end.Leave = []
@@ -189,7 +188,7 @@ pub record Stopped (t : Tables) (to : ℕ) (acts : Acts) (t' : Tables) : Type 0 
   pub forward : t.clock ≤ t'.clock
   pub no_further : t'.clock ≤ to
   pub at_due : t.clock ≤ alarm.due → t'.clock ≡ alarm.due
-  pub alone : alarms_shown (listed acts) ≡ cond (has (numbered alarm.grant) t.transmissions) ((alarm.grant, alarm.kind) ∷ []) []
+  pub alone : alarms_shown (listed acts) ≡ cond (list_any (numbered alarm.grant) t.transmissions) ((alarm.grant, alarm.kind) ∷ []) []
   pub by_time : AllByRecursion ByTime (listed acts)
   pub others_stay : AllByRecursion (λ a. In a t'.alarms) (drop 1 t.alarms)
   pub none_passed : Ordered by_due t.alarms → t.clock ≤ alarm.due → AllByRecursion (λ a. t'.clock ≤ a.due) t.alarms

@@ -2,6 +2,7 @@ pub mod Words
 pub mod Causes
 pub mod Refusals
 pub mod Acts
+pub mod Shown
 pub mod Settings
 pub mod Tables
 pub mod Register

@@ -1,4 +1,4 @@
--- What is looked for in the tables of a call, as the tests of `lookup` do. Cited by what finds, changes or drops it.
+-- What is looked for in the tables of a call. Cited by what finds, changes or drops it.
 use Rattle.std.specs.Prelude.{ℕ, Bool, ◌==◌}
 use Rattle.precedence.specs.declared.claims.Claim.{Claim}
 use Rattle.precedence.specs.declared.alarms.Alarm.{Alarm}

@@ -1,24 +1,18 @@
 -- Pre-emption: whether a standing transmission is recalled for a claim, and which. Cited by `preempt`.
-use Rattle.std.specs.Prelude.{ℕ, ◌+◌, Bool, true, false, cond, not, ◌&&◌, List, Some, None, fold, count_by, Option}
+use Rattle.std.specs.Prelude.{ℕ, ◌+◌, Bool, cond, not, ◌&&◌, List, Some, None, fold, count_by, Option, is_none}
+use Rattle.std.specs.List.{list_any}
 use Rattle.order.specs.Standings.{not_behind, is_ahead}
 use Rattle.order.specs.Lines.{at_place}
 use Rattle.precedence.specs.declared.claims.Claim.{Claim}
-use Rattle.model.specs.Words.{has}
 use Rattle.model.specs.State.{Compare, Tables}
 use Rattle.model.specs.Transmissions.{recall_of, revoke_act}
 use Rattle.model.specs.declared.acts.Act.{Act}
 use Rattle.model.specs.declared.causes.RecallCause.TheVariants.{PreEmption}
-use Rattle.model.specs.declared.tables.Phase.{Phase}
-use Rattle.model.specs.declared.tables.Phase.TheVariants.{Standing, Recalled}
 use Rattle.model.specs.declared.tables.Transmission.{Transmission}
 
 -- it stands: it is open, and not under recall
-abbrev pub in_standing : Phase → Bool
-in_standing Standing = true
-in_standing (Recalled cause) = false
-
 abbrev pub stands : Transmission → Bool
-stands x = in_standing x.phase
+stands x = is_none x.recall
 
 -- how many are under recall
 abbrev pub recalls : List Transmission → ℕ
@@ -40,7 +34,7 @@ last_standing cmp xs = fold (later_standing cmp) None xs
 
 -- the claim is ahead of some standing transmission
 abbrev pub ahead_of_some : Compare → Claim → List Transmission → Bool
-ahead_of_some cmp w xs = has (λ x. stands x && is_ahead (cmp w.ground x.ground)) xs
+ahead_of_some cmp w xs = list_any (λ x. stands x && is_ahead (cmp w.ground x.ground)) xs
 
 -- the transmission that the claim pre-empts, if any
 abbrev pub pre_empted_by : Compare → Claim → List Transmission → Option Transmission

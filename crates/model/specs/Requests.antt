@@ -1,10 +1,9 @@
 -- A request of an idle camera that may transmit: the first case that fits. Cited by `ask`.
-use Rattle.std.specs.Prelude.{ℕ, ◌+◌, ◌-◌, cond, length, Some, None, Option, ◌==◌, nat_lt}
+use Rattle.std.specs.Prelude.{ℕ, ◌+◌, ◌-◌, cond, length, Some, None, Option, ◌==◌, nat_lt, find}
 use Rattle.order.specs.Lines.{place_of, insert}
 use Rattle.order.specs.declared.standing.Standing.{Standing}
 use Rattle.precedence.specs.declared.alarms.Alarm.{Alarm}
 use Rattle.precedence.specs.declared.claims.Claim.{Claim}
-use Rattle.model.specs.Words.{first_that}
 use Rattle.model.specs.Lookups.{alarm_of}
 use Rattle.model.specs.Answers.{Answer, accepted_with, only_says, rows_stay}
 use Rattle.model.specs.Preemption.{pre_empt}
@@ -54,4 +53,4 @@ until_due clock (Some a) = a.due - clock
 
 -- a standing camera that asks again is told its number and the seconds left
 abbrev pub resend_act : Tables → Transmission → Act
-resend_act t x = Resend x.number x.camera (until_due t.clock (first_that (alarm_of x.number) t.alarms))
+resend_act t x = Resend x.number x.camera (until_due t.clock (find (alarm_of x.number) t.alarms))

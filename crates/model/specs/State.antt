@@ -43,23 +43,23 @@ pub record State : Type 0 where
   pub rows : List Row
 
 abbrev pub with_clock : Tables → ℕ → Tables
-with_clock t second = record { settings = t.settings; clock = second; members = t.members; transmissions = t.transmissions; claims = t.claims; alarms = t.alarms; granted = t.granted }
+with_clock t second = record t { clock = second }
 
 abbrev pub with_members : Tables → List Member → Tables
-with_members t ms = record { settings = t.settings; clock = t.clock; members = ms; transmissions = t.transmissions; claims = t.claims; alarms = t.alarms; granted = t.granted }
+with_members t ms = record t { members = ms }
 
 abbrev pub with_transmissions : Tables → List Transmission → Tables
-with_transmissions t xs = record { settings = t.settings; clock = t.clock; members = t.members; transmissions = xs; claims = t.claims; alarms = t.alarms; granted = t.granted }
+with_transmissions t xs = record t { transmissions = xs }
 
 abbrev pub with_claims : Tables → List Claim → Tables
-with_claims t ws = record { settings = t.settings; clock = t.clock; members = t.members; transmissions = t.transmissions; claims = ws; alarms = t.alarms; granted = t.granted }
+with_claims t ws = record t { claims = ws }
 
 abbrev pub with_alarms : Tables → List Alarm → Tables
-with_alarms t due = record { settings = t.settings; clock = t.clock; members = t.members; transmissions = t.transmissions; claims = t.claims; alarms = due; granted = t.granted }
+with_alarms t due = record t { alarms = due }
 
 -- the same rows beside other tables
 abbrev pub with_tables : State → Tables → State
-with_tables s t = record { tables = t; rows = s.rows }
+with_tables s t = record s { tables = t }
 
 -- a call just made: the clock is at 0, nobody is in, nothing was granted
 abbrev pub empty_tables : Settings → Tables

@@ -5,12 +5,13 @@
 -- of_member     an event of a camera, which has to be in the call
 -- request_of    a request, which has to be of a kind, and of a camera that may transmit
 -- step          every event
-use Rattle.std.specs.Prelude.{ℕ, Bool, cond, ◌||◌, length, Some, None, Option, ◌==◌, nat_lt}
+use Rattle.std.specs.Prelude.{ℕ, Bool, cond, ◌||◌, length, Some, None, Option, ◌==◌, nat_lt, find}
+use Rattle.std.specs.List.{list_any}
 use Rattle.order.specs.Lines.{appended}
 use Rattle.precedence.specs.Grounds.{kind_of}
 use Rattle.precedence.specs.declared.grounds.Ground.{Ground}
 use Rattle.precedence.specs.declared.grounds.Kind.{Kind}
-use Rattle.model.specs.Words.{has, first_that, without_first}
+use Rattle.model.specs.Words.{without_first}
 use Rattle.model.specs.Lookups.{is_member, claim_of}
 use Rattle.model.specs.Answers.{Answer, accepted_with, only_says, refused_for, rows_stay}
 use Rattle.model.specs.Cameras.{state_of_camera}
@@ -39,7 +40,7 @@ use Rattle.model.specs.declared.tables.Transmission.{Transmission}
 
 -- 0, the server and who is in already may not join
 abbrev pub may_not_join : Tables → ℕ → Bool
-may_not_join t c = c == 0 || (c == t.settings.server || has (is_member c) t.members)
+may_not_join t c = c == 0 || (c == t.settings.server || list_any (is_member c) t.members)
 
 -- a call holds 64 cameras; who joins is last in joining order
 abbrev pub admit : Tables → Member → Tables × Answer
@@ -110,7 +111,7 @@ if_member cmp s c e None = refused_for s NotInCall
 if_member cmp s c e (Some m) = in_state cmp s c (state_of_camera s.tables c) e
 
 abbrev pub of_member : Compare → State → ℕ → CameraEvent → State × Answer
-of_member cmp s c e = if_member cmp s c e (first_that (is_member c) s.tables.members)
+of_member cmp s c e = if_member cmp s c e (find (is_member c) s.tables.members)
 
 -- a camera that only receives is rejected
 abbrev pub by_class : Compare → State → ℕ → (ground : Ground) → Class → State × Answer
@@ -126,7 +127,7 @@ request_by cmp s c kind priority None = refused_for s NotInCall
 request_by cmp s c kind priority (Some m) = by_kind_of cmp s c m.class priority (kind_of kind)
 
 abbrev pub request_of : Compare → State → ℕ → ℕ → ℕ → State × Answer
-request_of cmp s c kind priority = request_by cmp s c kind priority (first_that (is_member c) s.tables.members)
+request_of cmp s c kind priority = request_by cmp s c kind priority (find (is_member c) s.tables.members)
 
 -- Every event
 

@@ -1,7 +1,7 @@
 -- Grant, promotion, end and recall: what opens and closes a row, and the alarms that go with it. Cited by the
 -- functions of the call that grant, promote, end and recall.
 use Rattle.std.specs.Prelude.{ℕ, ◌+◌, Some, None, Option}
-use Rattle.order.specs.Lines.{joined, appended, at_place, without}
+use Rattle.order.specs.Lines.{joined, appended, at_place, without, put_at}
 use Rattle.precedence.specs.Rules.{by_due}
 use Rattle.precedence.specs.declared.grounds.Ground.{Ground}
 use Rattle.precedence.specs.declared.claims.Claim.{Claim}
@@ -10,7 +10,7 @@ use Rattle.precedence.specs.declared.alarms.AlarmKind.TheVariants.{Talk, Grace}
 use Rattle.model.specs.Words.{without_first, change_first}
 use Rattle.model.specs.Lookups.{numbered, alarm_of}
 use Rattle.model.specs.Acts.{grant_act, notify_act}
-use Rattle.model.specs.Register.{placed, open_row, close_row}
+use Rattle.model.specs.Register.{open_row, close_row}
 use Rattle.model.specs.State.{Tables, State, with_transmissions, with_claims, with_alarms, with_tables}
 use Rattle.model.specs.declared.acts.Act.{Act}
 use Rattle.model.specs.declared.acts.Act.TheVariants.{Revoke, Ended}
@@ -19,7 +19,6 @@ use Rattle.model.specs.declared.acts.Acts.TheVariants.{One, Two, Three}
 use Rattle.model.specs.declared.acts.Granted.{Granted}
 use Rattle.model.specs.declared.causes.EndCause.{EndCause}
 use Rattle.model.specs.declared.causes.RecallCause.{RecallCause}
-use Rattle.model.specs.declared.tables.Phase.TheVariants.{Standing, Recalled}
 use Rattle.model.specs.declared.tables.Transmission.{Transmission}
 
 -- Alarms. There are 16 places for them, as many as transmissions may be open.
@@ -40,20 +39,15 @@ next_grant t camera = record { number = t.granted + 1; camera = camera; seconds 
 
 -- the next number is given, and a transmission under it stands
 abbrev pub numbered_next : Tables → ℕ → (ground : Ground) → Tables
-numbered_next t camera ground = record {
-  settings = t.settings;
-  clock = t.clock;
-  members = t.members;
-  transmissions = appended 16 (record { number = t.granted + 1; camera = camera; ground = ground; phase = Standing }) t.transmissions;
-  claims = t.claims;
-  alarms = t.alarms;
+numbered_next t camera ground = record t {
+  transmissions = appended 16 (record { number = t.granted + 1; camera = camera; ground = ground; recall = None }) t.transmissions;
   granted = t.granted + 1;
 }
 
 abbrev pub grant_to : State → ℕ → Ground → State
 grant_to s camera ground = record {
   tables = set_alarm (numbered_next s.tables camera ground) (s.tables.granted + 1) Talk s.tables.settings.talk;
-  rows = placed (s.tables.granted + 1) (open_row camera ground s.tables.clock) s.rows;
+  rows = put_at (s.tables.granted + 1) (open_row camera ground s.tables.clock) s.rows;
 }
 
 -- the acts of a grant
@@ -90,7 +84,7 @@ end_of s x cause =
 -- Recall: the transmission is under recall, and a grace alarm, grace seconds on, is in the place of the talk alarm.
 
 abbrev pub recalled_for : RecallCause → Transmission → Transmission
-recalled_for cause x = record { number = x.number; camera = x.camera; ground = x.ground; phase = Recalled cause }
+recalled_for cause x = record x { recall = Some cause }
 
 abbrev pub recall_of : Tables → Transmission → RecallCause → Tables
 recall_of t x cause =

@@ -1,29 +1,15 @@
--- Words on lists: the first that passes a test. Cited by `lookup`.
-use Rattle.std.specs.Prelude.{◌≡◌, ℕ, ◌+◌, Bool, false, cond, ◌||◌, ◌⊎◌, List, [], ◌∷◌, Some, None, Option}
+-- Words on lists, beside those of the library: what is done to the first that passes a test. Cited by what looks
+-- entries up and changes or drops them.
+use Rattle.std.specs.Prelude.{◌≡◌, ℕ, ◌+◌, Bool, cond, ◌⊎◌, List, [], ◌∷◌, Option, option_map, position}
 
 -- x is in the list
 abbrev pub In : {X : Type 0} → X → List X → Type 0
 In x [] = ⊥
 In x (y ∷ ys) = (x ≡ y) ⊎ In x ys
 
--- one passes
-abbrev pub has : {X : Type 0} → (X → Bool) → List X → Bool
-has p [] = false
-has p (x ∷ xs) = p x || has p xs
-
--- how many come before the first that passes, or all where none does
-abbrev pub until : {X : Type 0} → (X → Bool) → List X → ℕ
-until p [] = 0
-until p (x ∷ xs) = cond (p x) 0 (until p xs + 1)
-
--- its place, from 1, if one passes
+-- the place of the first that passes, from 1, if one does
 abbrev pub place_of_first : {X : Type 0} → (X → Bool) → List X → Option ℕ
-place_of_first p xs = cond (has p xs) (Some (until p xs + 1)) None
-
--- the first that passes, if any
-abbrev pub first_that : {X : Type 0} → (X → Bool) → List X → Option X
-first_that p [] = None
-first_that p (x ∷ xs) = cond (p x) (Some x) (first_that p xs)
+place_of_first p xs = option_map (λ before. before + 1) (position p xs)
 
 -- the list without it
 abbrev pub without_first : {X : Type 0} → (X → Bool) → List X → List X

@@ -1,11 +1,14 @@
 // Acts: what an accepted event makes, for the cameras to be told or for the register. At most three, in order.
-ghost use Rattle.std.specs.Prelude.{◌≡◌, length};
+ghost use Rattle.std.specs.Prelude.{◌≡◌, List, length};
 ghost use Rattle.std.specs.List.{slice_get};
+ghost use Rattle.std.specs.Iterator.{YieldsFirst, item_count};
+ghost use Rattle.model.specs.declared.acts.Act.{Act};
 ghost use Rattle.model.specs.Acts.{act_word, act_number, act_camera, act_value, grant_act, notify_act, listed};
 
 use crate::causes::{EndCause, RecallCause, RejectCause};
+use std::marker::Model;
 
-#[derive(Clone, Copy)]
+#[derive(Clone, Copy, Debug, PartialEq, Eq)]
 pub enum Act {
     // The camera may transmit under this number, for so many seconds.
     Grant {
@@ -73,11 +76,11 @@ impl Act {
         ensures value { result ≡ act_number self }
     {
         match self {
-            Act::Grant { number, .. } => number,
-            Act::Notify { number, .. } => number,
-            Act::Resend { number, .. } => number,
-            Act::Revoke { number, .. } => number,
-            Act::Ended { number, .. } => number,
+            Act::Grant { number, .. }
+            | Act::Notify { number, .. }
+            | Act::Resend { number, .. }
+            | Act::Revoke { number, .. }
+            | Act::Ended { number, .. } => number,
             Act::Queued { .. } | Act::Reject { .. } | Act::Cancelled { .. } => 0,
         }
     }
@@ -86,14 +89,14 @@ impl Act {
         ensures value { result ≡ act_camera self }
     {
         match self {
-            Act::Grant { camera, .. } => camera,
-            Act::Notify { camera, .. } => camera,
-            Act::Resend { camera, .. } => camera,
-            Act::Queued { camera, .. } => camera,
-            Act::Reject { camera, .. } => camera,
-            Act::Revoke { camera, .. } => camera,
-            Act::Ended { camera, .. } => camera,
-            Act::Cancelled { camera } => camera,
+            Act::Grant { camera, .. }
+            | Act::Notify { camera, .. }
+            | Act::Resend { camera, .. }
+            | Act::Queued { camera, .. }
+            | Act::Reject { camera, .. }
+            | Act::Ended { camera, .. }
+            | Act::Cancelled { camera }
+            | Act::Revoke { camera, .. } => camera,
         }
     }
 
@@ -102,19 +105,18 @@ impl Act {
         ensures value { result ≡ act_value self }
     {
         match self {
-            Act::Grant { seconds, .. } => seconds,
-            Act::Resend { seconds, .. } => seconds,
+            Act::Grant { seconds, .. } | Act::Resend { seconds, .. } => seconds,
             Act::Queued { place, .. } => u32::from(place),
-            Act::Reject { cause, .. } => u32::from(cause.number()),
-            Act::Revoke { cause, .. } => u32::from(cause.number()),
-            Act::Ended { cause, .. } => u32::from(cause.number()),
+            Act::Reject { cause, .. } => u32::from(u8::from(cause)),
+            Act::Revoke { cause, .. } => u32::from(u8::from(cause)),
+            Act::Ended { cause, .. } => u32::from(u8::from(cause)),
             Act::Notify { .. } | Act::Cancelled { .. } => 0,
         }
     }
 }
 
 // A grant just given.
-#[derive(Clone, Copy)]
+#[derive(Clone, Copy, Debug, PartialEq, Eq)]
 pub struct Granted {
     pub number: u16,
     pub camera: u32,
@@ -148,7 +150,9 @@ impl Granted {
     }
 }
 
-#[derive(Clone, Copy)]
+// At most three, by the type. A vector in fixed memory would be no plainer: it is not `Copy`, and would need a blank
+// act and a push for each act.
+#[derive(Clone, Copy, Debug, PartialEq, Eq)]
 pub enum Acts {
     Zero,
     One { first: Act },
@@ -160,34 +164,75 @@ impl Acts {
     pub fn len(self) -> usize
         ensures value { result ≡ length (listed self) }
     {
-        match self {
-            Acts::Zero => 0,
-            Acts::One { .. } => 1,
-            Acts::Two { .. } => 2,
-            Acts::Three { .. } => 3,
-        }
+        self.into_iter().count()
     }
 
     // The act at an index, from 0, if any.
     pub fn get(self, index: usize) -> Option<Act>
         ensures item { result ≡ slice_get (listed self) index }
     {
-        match (self, index) {
-            (Acts::One { first }, 0) => Some(first),
-            (Acts::Two { first, .. }, 0) => Some(first),
-            (Acts::Two { second, .. }, 1) => Some(second),
-            (Acts::Three { first, .. }, 0) => Some(first),
-            (Acts::Three { second, .. }, 1) => Some(second),
-            (Acts::Three { third, .. }, 2) => Some(third),
-            (_, _) => None,
-        }
+        self.into_iter().nth(index)
+    }
+}
+
+impl IntoIterator for Acts {
+    type Item = Act;
+
+    type IntoIter = IntoIter;
+
+    ghost into_iter_gives = { λ acts left. left ≡ listed acts };
+
+    fn into_iter(self) -> IntoIter {
+        IntoIter { left: self }
+    }
+}
+
+// The acts of an answer that are still to come, seen as their list.
+#[derive(Drop)]
+pub struct IntoIter {
+    left: Acts,
+}
+
+impl Model for IntoIter {
+    ghost Value = { List Act };
+
+    ghost view = { λ it. listed it.left };
+}
+
+impl Iterator for IntoIter {
+    type Item = Act;
+
+    ghost next_gives = { YieldsFirst (λ rest. rest) };
+
+    ghost remaining = { item_count (λ rest. rest) };
+
+    fn next(&mut self) -> Option<Act> {
+        let (act, left) = match self.left {
+            Acts::Zero => return None,
+            Acts::One { first } => (first, Acts::Zero),
+            Acts::Two { first, second } => (first, Acts::One { first: second }),
+            Acts::Three {
+                first,
+                second,
+                third,
+            } => (
+                first,
+                Acts::Two {
+                    first: second,
+                    second: third,
+                },
+            ),
+        };
+        self.left = left;
+        Some(act)
     }
 }
 
 // The answer to an accepted event.
-#[derive(Clone, Copy)]
+#[derive(Clone, Copy, Debug, PartialEq, Eq)]
 pub struct Reply {
-    // The clock stopped at an alarm: the event is to be made again.
+    // The clock stopped at an alarm: the event is to be made again. The acts stand in either case, so this is no
+    // `Option`.
     pub more: bool,
     pub acts: Acts,
 }

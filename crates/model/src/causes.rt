@@ -2,48 +2,38 @@
 ghost use Rattle.std.specs.Prelude.{◌≡◌};
 ghost use Rattle.model.specs.Causes.{recall_number, end_number, reject_number};
 
-#[derive(Clone, Copy)]
+#[derive(Clone, Copy, Debug, PartialEq, Eq)]
 pub enum RecallCause {
     // The talk time is over.
-    TimeOut,
+    TimeOut = 2,
     // A claim ahead of it waits.
-    PreEmption,
+    PreEmption = 4,
 }
 
-impl RecallCause {
-    pub fn number(self) -> u8
-        ensures value { result ≡ recall_number self }
-    {
-        match self {
-            RecallCause::TimeOut => 2,
-            RecallCause::PreEmption => 4,
-        }
+impl From<RecallCause> for u8 {
+    ghost from_gives = { λ recall number. number ≡ recall_number recall };
+
+    fn from(recall: RecallCause) -> u8 {
+        recall as u8
     }
 }
 
-// The end cause of a register row; a row that has not ended has `NotEnded`.
-#[derive(Clone, Copy)]
+#[derive(Clone, Copy, Debug, PartialEq, Eq)]
 pub enum EndCause {
-    NotEnded,
-    Release,
-    TimeOut,
-    Leave,
+    Release = 1,
+    TimeOut = 2,
+    Leave = 3,
 }
 
-impl EndCause {
-    pub fn number(self) -> u8
-        ensures value { result ≡ end_number self }
-    {
-        match self {
-            EndCause::NotEnded => 0,
-            EndCause::Release => 1,
-            EndCause::TimeOut => 2,
-            EndCause::Leave => 3,
-        }
+impl From<EndCause> for u8 {
+    ghost from_gives = { λ end number. number ≡ end_number end };
+
+    fn from(end: EndCause) -> u8 {
+        end as u8
     }
 }
 
-#[derive(Clone, Copy)]
+#[derive(Clone, Copy, Debug, PartialEq, Eq)]
 pub enum RejectCause {
     // The camera's transmission is under recall, for this cause.
     Recalled { cause: RecallCause },
@@ -54,12 +44,12 @@ pub enum RejectCause {
     LineFull,
 }
 
-impl RejectCause {
-    pub fn number(self) -> u8
-        ensures value { result ≡ reject_number self }
-    {
-        match self {
-            RejectCause::Recalled { cause } => cause.number(),
+impl From<RejectCause> for u8 {
+    ghost from_gives = { λ cause number. number ≡ reject_number cause };
+
+    fn from(cause: RejectCause) -> u8 {
+        match cause {
+            RejectCause::Recalled { cause } => u8::from(cause),
             RejectCause::ReceiveOnly => 5,
             RejectCause::NoRow => 6,
             RejectCause::LineFull => 7,

@@ -11,6 +11,7 @@ impl Settings {
         ensures value { read result ≡ asked wanted lent }
         ensures lent { IfOk result (λ s. s.rows ≤ lent) }
     {
+        // One test after another: of one condition over all of them the proof did not close.
         if wanted.limit == 0 || wanted.limit > 16 {
             return Err(Refusal::Setting);
         }
@@ -26,6 +27,7 @@ impl Settings {
         if wanted.server == 0 {
             return Err(Refusal::Setting);
         }
+        // Field by field: a `Wanted` inside would stand between every setting and its use.
         Ok(Settings {
             limit: wanted.limit,
             line: wanted.line,

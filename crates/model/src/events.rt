@@ -1,8 +1,9 @@
 // What may happen to a call.
 use precedence::grounds::Ground;
 
-// One event. Numbers stand as they were received: the call refuses those that mean nothing.
-#[derive(Clone, Copy)]
+// One event. Numbers of classes and kinds stand as they were received, and the call refuses those that mean nothing:
+// the enums in their place would ask more of whoever makes the event.
+#[derive(Clone, Copy, Debug, PartialEq, Eq)]
 pub enum Event {
     Join { camera: u32, class: u8 },
     Leave { camera: u32 },
@@ -14,18 +15,11 @@ pub enum Event {
 }
 
 // An event of a camera that is in the call. What it does depends on the camera's state.
-#[derive(Clone, Copy)]
+#[derive(Clone, Copy, Debug, PartialEq, Eq)]
 pub enum CameraEvent {
     Leave,
     Request { ground: Ground },
     Release,
     Cancel,
     Position,
-}
-
-// The camera that an event comes from, and its place among the members, from 1.
-#[derive(Clone, Copy)]
-pub struct Sender {
-    pub camera: u32,
-    pub place: usize,
 }

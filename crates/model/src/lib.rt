@@ -9,4 +9,5 @@ pub mod lookup;
 pub mod refusals;
 pub mod register;
 pub mod settings;
+pub mod shown;
 pub mod tables;

@@ -1,123 +1,90 @@
-// Looking for a camera or a grant in a table: the place of the first entry that passes a test.
-ghost use Rattle.std.specs.Prelude.{◌≡◌, ◌==◌, ◌<◌, ◌≤◌, Bool, length, IfSome, nat_lt};
-ghost use Rattle.model.specs.Words.{has, until, place_of_first};
+// Looking for an entry of a table by the camera or the grant that it is of. An index is how many entries stand before
+// the one that is found.
+ghost use Rattle.std.specs.Prelude.{◌≡◌, ◌<◌, ◌≤◌, Bool, find, length, position, IfSome};
+ghost use Rattle.model.specs.Lookups.{is_member, claim_of, transmission_of, numbered, alarm_of};
+ghost use Rattle.model.specs.Words.{place_of_first};
 
 use crate::tables::{Member, Transmission};
 use precedence::alarms::Alarm;
 use precedence::claims::Claim;
 
-// A test of things of one kind, `Item`.
-pub trait Test {
-    type Item;
+// A camera, by its SSRC, as what an entry is of.
+#[derive(Clone, Copy, Debug, PartialEq, Eq)]
+pub struct OfCamera(pub u32);
 
-    ghost passes: { Self → Self.Item → Bool };
+// A grant, by its number, as what an entry is of.
+#[derive(Clone, Copy, Debug, PartialEq, Eq)]
+pub struct OfGrant(pub u16);
 
-    fn passes(&self, item: &Self::Item) -> bool
-        ensures test { result ≡ passes self.now item.now };
+// An entry that is looked up by a key.
+pub trait Keyed<K> {
+    ghost has: { Self → K → Bool };
+
+    // Whether the entry is of what the key says.
+    fn has(entry: &Self, key: &K) -> bool
+        ensures test { result ≡ has entry.now key.now };
 }
 
-// The member that is this camera.
-#[derive(Clone, Copy)]
-pub struct IsMember {
-    pub camera: u32,
-}
+impl Keyed<OfCamera> for Member {
+    ghost has = { λ member key. is_member key.0 member };
 
-impl Test for IsMember {
-    type Item = Member;
-
-    ghost passes = { λ t m. m.camera == t.camera };
-
-    fn passes(&self, member: &Member) -> bool {
-        member.camera == self.camera
+    fn has(member: &Member, key: &OfCamera) -> bool {
+        member.camera == key.0
     }
 }
 
-// The claim of this camera.
-#[derive(Clone, Copy)]
-pub struct IsClaimOf {
-    pub camera: u32,
-}
+impl Keyed<OfCamera> for Claim {
+    ghost has = { λ claim key. claim_of key.0 claim };
 
-impl Test for IsClaimOf {
-    type Item = Claim;
-
-    ghost passes = { λ t w. w.camera == t.camera };
-
-    fn passes(&self, claim: &Claim) -> bool {
-        claim.camera == self.camera
+    fn has(claim: &Claim, key: &OfCamera) -> bool {
+        claim.camera == key.0
     }
 }
 
-// The transmission of this camera.
-#[derive(Clone, Copy)]
-pub struct IsTransmissionOf {
-    pub camera: u32,
-}
+impl Keyed<OfCamera> for Transmission {
+    ghost has = { λ transmission key. transmission_of key.0 transmission };
 
-impl Test for IsTransmissionOf {
-    type Item = Transmission;
-
-    ghost passes = { λ t x. x.camera == t.camera };
-
-    fn passes(&self, transmission: &Transmission) -> bool {
-        transmission.camera == self.camera
+    fn has(transmission: &Transmission, key: &OfCamera) -> bool {
+        transmission.camera == key.0
     }
 }
 
-// The transmission under this grant.
-#[derive(Clone, Copy)]
-pub struct IsNumbered {
-    pub number: u16,
-}
+impl Keyed<OfGrant> for Transmission {
+    ghost has = { λ transmission key. numbered key.0 transmission };
 
-impl Test for IsNumbered {
-    type Item = Transmission;
-
-    ghost passes = { λ t x. x.number == t.number };
-
-    fn passes(&self, transmission: &Transmission) -> bool {
-        transmission.number == self.number
+    fn has(transmission: &Transmission, key: &OfGrant) -> bool {
+        transmission.number == key.0
     }
 }
 
-// The alarm of this grant.
-#[derive(Clone, Copy)]
-pub struct IsAlarmOf {
-    pub grant: u16,
-}
+impl Keyed<OfGrant> for Alarm {
+    ghost has = { λ alarm key. alarm_of key.0 alarm };
 
-impl Test for IsAlarmOf {
-    type Item = Alarm;
-
-    ghost passes = { λ t a. a.grant == t.grant };
-
-    fn passes(&self, alarm: &Alarm) -> bool {
-        alarm.grant == self.grant
+    fn has(alarm: &Alarm, key: &OfGrant) -> bool {
+        alarm.grant == key.0
     }
 }
 
-// The place of the first that passes, from 1, if any does.
-pub fn place_of_first<K: Test>(items: &[K::Item], test: &K) -> Option<usize>
-    ensures place { result ≡ place_of_first (K.Test.passes test.now) items.now }
-    ensures within { IfSome result (λ place. (0 < place) × (place ≤ length items.now)) }
+// The first that has the key, if any.
+pub fn first_with<T: Keyed<K> + Copy, K>(entries: &[T], key: &K) -> Option<T>
+    ensures item { result ≡ find (λ entry. T.has entry key.now) entries.now }
 {
-    let before = before_first(items, test);
-    if before < items.len() {
-        Some(before + 1)
-    } else {
-        None
-    }
+    entries.iter().copied().find(|entry| T::has(entry, key))
 }
 
-// How many come before the first that passes, or all of them if none does.
-fn before_first<K: Test>(items: &[K::Item], test: &K) -> usize
-    ensures count { result ≡ until (K.Test.passes test.now) items.now }
-    ensures some { has (K.Test.passes test.now) items.now ≡ nat_lt result (length items.now) }
+// The index of the first that has the key, if any.
+pub fn index_of_first<T: Keyed<K>, K>(entries: &[T], key: &K) -> Option<usize>
+    ensures index { result ≡ position (λ entry. T.has entry key.now) entries.now }
+    ensures within { IfSome result (λ index. index < length entries.now) }
 {
-    for (i, item) in items.iter().enumerate() {
-        if test.passes(item) {
-            return i;
-        }
-    }
-    items.len()
+    entries.iter().position(|entry| T::has(entry, key))
+}
+
+// The place of the first that has the key, from 1, if any.
+pub fn place_of_first<T: Keyed<K>, K>(entries: &[T], key: &K) -> Option<usize>
+    ensures place { result ≡ place_of_first (λ entry. T.has entry key.now) entries.now }
+    ensures within { IfSome result (λ place. (0 < place) × (place ≤ length entries.now)) }
+{
+    let index = index_of_first(entries, key)?;
+    Some(index + 1)
 }

@@ -1,45 +1,54 @@
 // Why an event, an opening or the reading of a row is refused; each refusal has its number.
 ghost use Rattle.std.specs.Prelude.{◌≡◌};
 ghost use Rattle.model.specs.Refusals.{refusal_number};
+ghost use Rattle.model.specs.declared.refusals.Refusal.TheVariants.{BadJoin, BadKind};
 
-#[derive(Clone, Copy)]
+use crate::tables::UnknownClass;
+use precedence::grounds::UnknownKind;
+
+#[derive(Clone, Copy, Debug, PartialEq, Eq)]
 pub enum Refusal {
     // A setting is outside its range.
-    Setting,
+    Setting = 11,
     // The SSRC is 0, the server's or already in, or the class is above 1.
-    BadJoin,
+    BadJoin = 13,
     // As many as a call holds are in.
-    CallFull,
-    NotInCall,
+    CallFull = 14,
+    NotInCall = 15,
     // The kind is above 2.
-    BadKind,
+    BadKind = 16,
     // Release: the camera has no open transmission.
-    NothingOpen,
+    NothingOpen = 17,
     // Cancel, position: the camera does not wait.
-    NotWaiting,
+    NotWaiting = 18,
     // The second is before the clock.
-    ClockBack,
+    ClockBack = 19,
     // The second is after the last that a clock may reach.
-    ClockBeyond,
+    ClockBeyond = 20,
     // Reading a row: its number is 0, or not yet granted.
-    NoSuchRow,
+    NoSuchRow = 23,
 }
 
-impl Refusal {
-    pub fn number(self) -> u8
-        ensures value { result ≡ refusal_number self }
-    {
-        match self {
-            Refusal::Setting => 11,
-            Refusal::BadJoin => 13,
-            Refusal::CallFull => 14,
-            Refusal::NotInCall => 15,
-            Refusal::BadKind => 16,
-            Refusal::NothingOpen => 17,
-            Refusal::NotWaiting => 18,
-            Refusal::ClockBack => 19,
-            Refusal::ClockBeyond => 20,
-            Refusal::NoSuchRow => 23,
-        }
+impl From<Refusal> for u8 {
+    ghost from_gives = { λ refusal number. number ≡ refusal_number refusal };
+
+    fn from(refusal: Refusal) -> u8 {
+        refusal as u8
+    }
+}
+
+impl From<UnknownClass> for Refusal {
+    ghost from_gives = { λ _ refusal. refusal ≡ BadJoin };
+
+    fn from(_: UnknownClass) -> Refusal {
+        Refusal::BadJoin
+    }
+}
+
+impl From<UnknownKind> for Refusal {
+    ghost from_gives = { λ _ refusal. refusal ≡ BadKind };
+
+    fn from(_: UnknownKind) -> Refusal {
+        Refusal::BadKind
     }
 }

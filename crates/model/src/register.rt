@@ -1,18 +1,27 @@
 // The register: row n, from 1, holds grant n.
+ghost use Rattle.std.specs.Prelude.{◌≡◌};
+ghost use Rattle.model.specs.Register.{second_ended, cause_number};
+
 use crate::causes::EndCause;
 use precedence::grounds::{Ground, Kind};
 
-// While the cause is `NotEnded`, a granted row is open, and its second ended is 0.
-#[derive(Clone, Copy)]
+// The second at which a grant ended, and why.
+#[derive(Clone, Copy, Debug, PartialEq, Eq)]
+pub struct End {
+    pub second: u32,
+    pub cause: EndCause,
+}
+
+// While it has no end, a granted row is open.
+#[derive(Clone, Copy, Debug, PartialEq, Eq)]
 pub struct Row {
     pub camera: u32,
     pub ground: Ground,
     pub granted: u32,
-    pub ended: u32,
-    pub cause: EndCause,
+    pub end: Option<End>,
 }
 
-// A row not yet granted: every number of it is 0.
+// A row not yet granted.
 pub const BLANK_ROW: Row = Row {
     camera: 0,
     ground: Ground {
@@ -20,6 +29,22 @@ pub const BLANK_ROW: Row = Row {
         priority: 0,
     },
     granted: 0,
-    ended: 0,
-    cause: EndCause::NotEnded,
+    end: None,
 };
+
+// The numbers that a row shows, for whoever reads the register.
+impl Row {
+    // The second ended, or 0 while there is no end.
+    pub fn second_ended(self) -> u32
+        ensures value { result ≡ second_ended self.end }
+    {
+        self.end.map_or(0, |end| end.second)
+    }
+
+    // The number of the end cause, or 0 while there is no end.
+    pub fn cause_number(self) -> u8
+        ensures value { result ≡ cause_number self.end }
+    {
+        self.end.map_or(0, |end| u8::from(end.cause))
+    }
+}

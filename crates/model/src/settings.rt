@@ -2,7 +2,7 @@
 ghost use Rattle.std.specs.Prelude.{◌<◌, ◌≤◌};
 
 // Settings as they were asked for, in range or not.
-#[derive(Clone, Copy)]
+#[derive(Clone, Copy, Debug, PartialEq, Eq)]
 pub struct Wanted {
     // How many transmissions may be open together.
     pub limit: u8,
@@ -18,7 +18,7 @@ pub struct Wanted {
 }
 
 // Settings in their ranges.
-#[derive(Clone, Copy)]
+#[derive(Clone, Copy, Debug, PartialEq, Eq)]
 pub struct Settings {
     pub limit: u8,
     pub line: u8,
