@@ -70,7 +70,6 @@ impl<'a> Arbiter<'a> {
         ensures same { self.new.register.ghost_name ≡ self.old.register.ghost_name }
         ensures lawful { LawfulEvent (R.Ordering.standing rule.now) (seen self.old) event result (seen self.new) }
     {
-        let Arbiter { call, register } = self;
-        call.handle(register, rule, event)
+        self.call.handle(self.register, rule, event)
     }
 }

@@ -1,14 +1,13 @@
 // The alarms of the open transmissions.
-ghost use Rattle.std.specs.Prelude.{◌≡◌};
+ghost use Rattle.std.specs.Prelude.{◌≡◌, find};
 ghost use Rattle.model.specs.Transmissions.{set_alarm, drop_alarm};
 ghost use Rattle.model.specs.Requests.{until_due};
-ghost use Rattle.model.specs.Words.{first_that};
 ghost use Rattle.model.specs.Lookups.{alarm_of};
 ghost use Rattle.call.specs.View.{as_lists};
 
-use crate::finding::{drop_first, first_that};
+use crate::finding::drop_first;
 use crate::tables::Call;
-use model::lookup::IsAlarmOf;
+use model::lookup::{OfGrant, first_with};
 use precedence::alarms::{Alarm, AlarmKind, ByDue};
 
 impl Call {
@@ -22,29 +21,22 @@ impl Call {
             grant: number,
             kind,
         };
-        self.alarm_line.join(&mut self.alarms, &ByDue, alarm);
+        self.alarms.join(&ByDue, alarm);
     }
 
     pub(crate) fn drop_alarm(&mut self, number: u16)
         ensures lists { as_lists self.new ≡ drop_alarm (as_lists self.old) number }
     {
-        drop_first(
-            &mut self.alarm_line,
-            &mut self.alarms,
-            &IsAlarmOf { grant: number },
-        );
+        drop_first(&mut self.alarms, &OfGrant(number));
     }
 
     // How many seconds a transmission has left.
     pub(crate) fn seconds_left(&self, number: u16) -> u32
-        ensures value { result ≡ until_due self.now.clock (first_that (alarm_of number) (as_lists self.now).alarms) }
+        ensures value { result ≡ until_due self.now.clock (find (alarm_of number) (as_lists self.now).alarms) }
     {
-        match first_that(
-            self.alarm_line.all(&self.alarms),
-            &IsAlarmOf { grant: number },
-        ) {
-            Some(alarm) => alarm.due.saturating_sub(self.clock),
-            None => 0,
-        }
+        first_with(self.alarms.all(), &OfGrant(number)).map_or(
+            0,
+            |alarm| alarm.due.saturating_sub(self.clock),
+        )
     }
 }

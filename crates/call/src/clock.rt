@@ -24,7 +24,7 @@ impl Call {
         if to > LAST_SECOND {
             return Err(Refusal::ClockBeyond);
         }
-        match self.alarm_line.first(&self.alarms) {
+        match self.alarms.first() {
             Some(alarm) if alarm.due <= to => self.stop_at(register, alarm),
             Some(_) | None => self.reach(to),
         }
@@ -66,7 +66,7 @@ impl Call {
         }
     }
 
-    // A talk alarm recalls, a grace alarm ends.
+    // A talk alarm recalls, a grace alarm ends. The kind is data: a function in its place would need a box in a table.
     fn act(&mut self, register: &mut [Row], transmission: Transmission, kind: AlarmKind) -> Acts
         ensures state { view self.new register.new ≡ (act_by (view self.old register.old) transmission kind).0 }
         ensures acts { result ≡ (act_by (view self.old register.old) transmission kind).1 }

@@ -62,13 +62,9 @@ impl Call {
         ensures state { view self.new register.new ≡ (of_member (R.Ordering.standing rule.now) (view self.old register.old) camera event).0 }
         ensures answer { result ≡ (of_member (R.Ordering.standing rule.now) (view self.old register.old) camera event).1 }
     {
-        match self.member(camera) {
-            None => Err(Refusal::NotInCall),
-            Some(_) => {
-                let state = self.state_of(camera);
-                self.in_state(register, rule, camera, state, event)
-            }
-        }
+        self.member(camera).ok_or(Refusal::NotInCall)?;
+        let state = self.state_of(camera);
+        self.in_state(register, rule, camera, state, event)
     }
 
     // A request, which has to be of a kind, and of a camera that may transmit.
@@ -83,12 +79,8 @@ impl Call {
         ensures state { view self.new register.new ≡ (request_of (R.Ordering.standing rule.now) (view self.old register.old) camera kind priority).0 }
         ensures answer { result ≡ (request_of (R.Ordering.standing rule.now) (view self.old register.old) camera kind priority).1 }
     {
-        let Some(member) = self.member(camera) else {
-            return Err(Refusal::NotInCall);
-        };
-        let Some(kind) = Kind::numbered(kind) else {
-            return Err(Refusal::BadKind);
-        };
+        let member = self.member(camera).ok_or(Refusal::NotInCall)?;
+        let kind = Kind::try_from(kind)?;
         match member.class {
             Class::ReceiveOnly => rejected(camera, RejectCause::ReceiveOnly),
             Class::MayTransmit => {
@@ -105,7 +97,7 @@ impl Call {
         }
     }
 
-    // What a camera's event does, by its state and the event together.
+    // What a camera's event does, by its state and the event together: one match on both, by a rule of the project.
     fn in_state<R: Ordering<Item = Ground>>(
         &mut self,
         register: &mut [Row],

@@ -10,7 +10,7 @@ use crate::finding::drop_first;
 use crate::tables::Call;
 use model::acts::{Act, Acts, Reply};
 use model::causes::EndCause;
-use model::lookup::IsClaimOf;
+use model::lookup::OfCamera;
 use model::refusals::Refusal;
 use model::register::Row;
 use model::tables::Transmission;
@@ -74,10 +74,6 @@ impl Call {
     fn drop_claim(&mut self, camera: u32)
         ensures lists { as_lists self.new ≡ drop_claim (as_lists self.old) camera }
     {
-        drop_first(
-            &mut self.claim_line,
-            &mut self.claims,
-            &IsClaimOf { camera },
-        );
+        drop_first(&mut self.claims, &OfCamera(camera));
     }
 }

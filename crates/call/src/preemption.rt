@@ -1,5 +1,5 @@
 // Pre-emption: whether a standing transmission is recalled for a claim, and which.
-ghost use Rattle.std.specs.Prelude.{◌≡◌, ◌+◌, ◌≤◌, length};
+ghost use Rattle.std.specs.Prelude.{◌≡◌, ◌+◌};
 ghost use Rattle.order.specs.Lines.{at_place};
 ghost use Rattle.model.specs.Preemption.{recalls, later_standing, last_standing, pre_empted_by, pre_empt};
 ghost use Rattle.call.specs.View.{as_lists};
@@ -7,7 +7,7 @@ ghost use Rattle.call.specs.View.{as_lists};
 use crate::tables::Call;
 use model::acts::Act;
 use model::causes::RecallCause;
-use model::tables::{Phase, Transmission};
+use model::tables::Transmission;
 use order::ordering::Ordering;
 use order::standing::Standing;
 use precedence::claims::Claim;
@@ -19,36 +19,23 @@ impl Call {
         ensures lists { as_lists self.new ≡ (pre_empt (R.Ordering.standing rule.now) (as_lists self.old)).0 }
         ensures act { result ≡ (pre_empt (R.Ordering.standing rule.now) (as_lists self.old)).1 }
     {
-        match self.claim_to_test() {
-            None => None,
-            Some(claim) => match preempted_by(rule, claim, self.open_line.all(&self.open)) {
-                None => None,
-                Some(last) => Some(self.recall(last, RecallCause::PreEmption)),
-            },
-        }
+        let claim = self.claim_to_test()?;
+        let last = preempted_by(rule, claim, self.open.all())?;
+        Some(self.recall(last, RecallCause::PreEmption))
     }
 
     // With r transmissions under recall, the claim at place r + 1, if any.
     fn claim_to_test(&self) -> Option<Claim>
         ensures item { result ≡ at_place (recalls (as_lists self.now).transmissions + 1) (as_lists self.now).claims }
     {
-        let recalled = count_recalled(self.open_line.all(&self.open));
-        self.claim_line.at(&self.claims, recalled + 1)
+        let recalled = self
+            .open
+            .all()
+            .iter()
+            .filter(|transmission| transmission.recall.is_some())
+            .count();
+        self.claims.all().get(recalled).copied()
     }
-}
-
-// How many are under recall.
-fn count_recalled(transmissions: &[Transmission]) -> usize
-    ensures count { result ≡ recalls transmissions.now }
-    ensures within { result ≤ length transmissions.now }
-{
-    let mut count = 0;
-    for transmission in transmissions {
-        if let Phase::Recalled { .. } = transmission.phase {
-            count += 1;
-        }
-    }
-    count
 }
 
 // The transmission that the claim pre-empts, if any: the standing one that is last in precedence, if the claim is ahead
@@ -60,12 +47,10 @@ fn preempted_by<R: Ordering<Item = Ground>>(
 ) -> Option<Transmission>
     ensures item { result ≡ pre_empted_by (R.Ordering.standing rule.now) claim transmissions.now }
 {
-    match last_standing(rule, transmissions) {
-        None => None,
-        Some(last) => match rule.compare(&claim.ground, &last.ground) {
-            Standing::Ahead => Some(last),
-            Standing::Level | Standing::Behind => None,
-        },
+    let last = last_standing(rule, transmissions)?;
+    match rule.compare(&claim.ground, &last.ground) {
+        Standing::Ahead => Some(last),
+        Standing::Level | Standing::Behind => None,
     }
 }
 
@@ -76,6 +61,7 @@ fn last_standing<R: Ordering<Item = Ground>>(
 ) -> Option<Transmission>
     ensures item { result ≡ last_standing (R.Ordering.standing rule.now) transmissions.now }
 {
+    // By index, by a rule of the project: each is looked at in turn, and the last in precedence so far is kept.
     let mut last = None;
     for i in 0..transmissions.len() {
         last = later(rule, last, transmissions[i]);
@@ -91,10 +77,10 @@ fn later<R: Ordering<Item = Ground>>(
 ) -> Option<Transmission>
     ensures item { result ≡ later_standing (R.Ordering.standing rule.now) so_far next }
 {
-    match (so_far, next.phase) {
-        (_, Phase::Recalled { .. }) => so_far,
-        (None, Phase::Standing) => Some(next),
-        (Some(last), Phase::Standing) => {
+    match (so_far, next.recall) {
+        (_, Some(_)) => so_far,
+        (None, None) => Some(next),
+        (Some(last), None) => {
             if rule.compare(&last.ground, &next.ground).not_behind() {
                 Some(next)
             } else {

@@ -9,8 +9,8 @@ ghost use Rattle.call.specs.View.{as_lists};
 use crate::tables::Call;
 use model::acts::Act;
 use model::causes::RecallCause;
-use model::lookup::{IsNumbered, place_of_first};
-use model::tables::{Phase, Transmission};
+use model::lookup::{OfGrant, index_of_first};
+use model::tables::Transmission;
 use precedence::alarms::AlarmKind;
 
 impl Call {
@@ -30,15 +30,18 @@ impl Call {
         }
     }
 
-    // Only the phase of the transmission changes.
+    // Of the transmission only this changes, that it is under recall.
     fn mark_recalled(&mut self, number: u16, cause: RecallCause)
         ensures lists { as_lists self.new ≡ with_transmissions (as_lists self.old) (change_first (numbered number) (recalled_for cause) (as_lists self.old).transmissions) }
     {
-        match place_of_first(self.open_line.all(&self.open), &IsNumbered { number }) {
-            None => {}
-            Some(place) => {
-                self.open[place - 1].phase = Phase::Recalled { cause };
-            }
+        let open = self.open.all();
+        if let Some(index) = index_of_first(open, &OfGrant(number)) {
+            let recall = Some(cause);
+            let recalled = Transmission {
+                recall,
+                ..open[index]
+            };
+            self.open.put(index, recalled);
         }
     }
 }

@@ -1,10 +1,9 @@
-// The state of a call: fixed tables, each with the line of its taken places.
+// The state of a call: four tables, each with the line of those that it holds.
 ghost use Rattle.std.specs.Prelude.{◌+◌, ◌≤◌, length};
-ghost use Rattle.order.specs.Lines.{lined};
 
 use model::settings::Settings;
 use model::tables::{Member, Transmission};
-use order::line::Line;
+use order::table::Table;
 use precedence::alarms::Alarm;
 use precedence::claims::Claim;
 
@@ -17,27 +16,25 @@ pub const CLAIMS: usize = 32;
 // The last second that a clock may reach.
 pub const LAST_SECOND: u32 = 4_000_000_000;
 
-// A call. What the comments say of order holds of every call that events have made from its opening on.
+// A call. What the comments say of order holds of every call that events have made from its opening on. The register is
+// lent to its functions and is no field: each of them would then have to promise that it is the same one after. Nor is
+// the rule, which is lent at each call by a rule of the project.
 #[derive(Drop)]
 pub struct Call {
     pub(crate) settings: Settings,
     pub(crate) clock: u32,
     // The cameras in the call, in joining order.
-    pub(crate) members: [Member; MEMBERS],
-    pub(crate) member_line: Line,
+    pub(crate) members: Table<Member, MEMBERS>,
     // The open transmissions, in the order of their grants.
-    pub(crate) open: [Transmission; OPEN],
-    pub(crate) open_line: Line,
+    pub(crate) open: Table<Transmission, OPEN>,
     // The claims, by precedence.
-    pub(crate) claims: [Claim; CLAIMS],
-    pub(crate) claim_line: Line,
+    pub(crate) claims: Table<Claim, CLAIMS>,
     // An alarm for each open transmission, by due second.
-    pub(crate) alarms: [Alarm; OPEN],
-    pub(crate) alarm_line: Line,
+    pub(crate) alarms: Table<Alarm, OPEN>,
     // How many grants were given.
     pub(crate) grants: u16,
     // A due second fits 32 bits.
     ghost in_time: { clock ≤ 4000000000 },
     // Every claim has a row left for it, and a grant number fits 16 bits.
-    ghost rows_left: { grants + length (lined claim_line claims) ≤ settings.rows },
+    ghost rows_left: { grants + length claims ≤ settings.rows },
 }

@@ -11,13 +11,13 @@ told last s = cond (is_ahead s) (Some last) None
 
 pub returns-in-Ahead : goal.returns-in-Ahead
 returns-in-Ahead g c =
-    let way = ahead_of_last g.R.Ordering.standing g.R.Ordering.laws c.args.rule.now c.args.claim c.args.transmissions.now _ c.in-Some.ensures.item in
-    record { item = sym (way ∙ ap (told c.in-Some.last) (sym c.compare.ensures.stands ∙ c.in-Ahead.is)) }
+    let way = ahead_of_last g.R.Ordering.standing g.R.Ordering.laws c.args.rule.now c.args.claim c.args.transmissions.now _ c.in_ok-last.ensures.item in
+    record { item = sym (way ∙ ap (told c.in_ok-last.last) (sym c.compare.ensures.stands ∙ c.in-Ahead.is)) }
 
 pub returns-in-Level : goal.returns-in-Level
 returns-in-Level g c =
-    let way = ahead_of_last g.R.Ordering.standing g.R.Ordering.laws c.args.rule.now c.args.claim c.args.transmissions.now _ c.in-Some.ensures.item in
+    let way = ahead_of_last g.R.Ordering.standing g.R.Ordering.laws c.args.rule.now c.args.claim c.args.transmissions.now _ c.in_ok-last.ensures.item in
     elim c.in-Level.is [
-      | inl level ↦ record { item = sym (way ∙ ap (told c.in-Some.last) (sym c.compare.ensures.stands ∙ level)) }
-      | inr behind ↦ record { item = sym (way ∙ ap (told c.in-Some.last) (sym c.compare.ensures.stands ∙ behind)) }
+      | inl level ↦ record { item = sym (way ∙ ap (told c.in_ok-last.last) (sym c.compare.ensures.stands ∙ level)) }
+      | inr behind ↦ record { item = sym (way ∙ ap (told c.in_ok-last.last) (sym c.compare.ensures.stands ∙ behind)) }
     ]
