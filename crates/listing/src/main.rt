@@ -9,7 +9,6 @@ fn main(rt: HostRuntime) -> anyhow::Result<()> {
     let heap = rt.alloc();
     let mut input = Vec::new(heap);
     rt.stdin().take(MAX_OCTETS as u64).read_to_end(&mut input)?;
-    let text = listing(heap, input.as_slice())?;
-    rt.print(text.as_str())?;
+    rt.print(listing(heap, &input)?)?;
     Ok(())
 }

@@ -1,1 +1,3 @@
 pub mod Rules
+pub mod Lines
+pub mod Text

@@ -8,38 +8,33 @@ use precedence::rules::{Plain, Urgent};
 
 // The server's SSRC in every listing.
 const SERVER: u32 = 1;
-// The largest number of 8 bits, of 16 and of 32.
-const MOST_8: u32 = 255;
-
-const MOST_16: u32 = 65_535;
-
-const MOST_32: u32 = 4_294_967_295;
 
 // Opens a call with these settings under this rule.
-#[derive(Clone, Copy)]
+#[derive(Clone, Copy, Debug, PartialEq, Eq)]
 pub struct Opening {
     pub wanted: Wanted,
     pub rule: NamedRule,
 }
 
 pub fn read_opening(line: &[u8]) -> Option<Opening> {
-    let limit = read_pair(line, b"do=open limit=", MOST_8)?;
-    let queue = read_pair(limit.rest, b" line=", MOST_8)?;
-    let talk = read_pair(queue.rest, b" talk=", MOST_16)?;
-    let grace = read_pair(talk.rest, b" grace=", MOST_16)?;
-    let rows = read_pair(grace.rest, b" rows=", MOST_16)?;
-    let rule = read_rule(after(rows.rest, b" rule=")?)?;
+    let (limit, rest) = read_number(line, b"do=open limit=")?;
+    let (queue, rest) = read_number(rest, b" line=")?;
+    let (talk, rest) = read_number(rest, b" talk=")?;
+    let (grace, rest) = read_number(rest, b" grace=")?;
+    let (rows, rest) = read_number(rest, b" rows=")?;
+    let rule = read_rule(after(rest, b" rule=")?)?;
     let wanted = Wanted {
-        limit: limit.value as u8,
-        line: queue.value as u8,
-        talk: talk.value as u16,
-        grace: grace.value as u16,
-        rows: rows.value as u16,
+        limit,
+        line: queue,
+        talk,
+        grace,
+        rows,
         server: SERVER,
     };
     Some(Opening { wanted, rule })
 }
 
+// Not a `FromStr`: a line is octets, and a check that they are text would make it no plainer.
 fn read_rule(name: &[u8]) -> Option<NamedRule> {
     match name {
         b"plain" => Some(NamedRule::Plain(Plain)),
@@ -53,59 +48,58 @@ fn read_rule(name: &[u8]) -> Option<NamedRule> {
 }
 
 pub fn read_event(line: &[u8]) -> Option<Event> {
-    let rest = after(line, b"do=")?;
-    if let Some(camera) = read_alone(rest, b"leave cam=") {
-        return Some(Event::Leave { camera });
+    let event = after(line, b"do=")?;
+    let end = event.iter().position(|octet| *octet == b' ')?;
+    let (word, rest) = event.split_at(end);
+    match word {
+        b"join" => read_join(rest),
+        b"leave" => read_camera(rest).map(|camera| Event::Leave { camera }),
+        b"request" => read_request(rest),
+        b"release" => read_camera(rest).map(|camera| Event::Release { camera }),
+        b"cancel" => read_camera(rest).map(|camera| Event::Cancel { camera }),
+        b"position" => read_camera(rest).map(|camera| Event::Position { camera }),
+        b"clock" => read_last(rest, b" to=").map(|to| Event::Clock { to }),
+        _ => None,
     }
-    if let Some(camera) = read_alone(rest, b"release cam=") {
-        return Some(Event::Release { camera });
-    }
-    if let Some(camera) = read_alone(rest, b"cancel cam=") {
-        return Some(Event::Cancel { camera });
-    }
-    if let Some(camera) = read_alone(rest, b"position cam=") {
-        return Some(Event::Position { camera });
-    }
-    if let Some(to) = read_alone(rest, b"clock to=") {
-        return Some(Event::Clock { to });
-    }
-    if let Some(event) = read_join(rest) {
-        return Some(event);
-    }
-    read_request(rest)
-}
-
-// One number of 32 bits, and the end of the line.
-fn read_alone(rest: &[u8], key: &[u8]) -> Option<u32> {
-    let number = read_pair(rest, key, MOST_32)?;
-    if number.rest.len() != 0 {
-        return None;
-    }
-    Some(number.value)
 }
 
 fn read_join(rest: &[u8]) -> Option<Event> {
-    let camera = read_pair(rest, b"join cam=", MOST_32)?;
-    let class = read_pair(camera.rest, b" class=", MOST_8)?;
-    if class.rest.len() != 0 {
-        return None;
-    }
-    Some(Event::Join {
-        camera: camera.value,
-        class: class.value as u8,
-    })
+    let (camera, rest) = read_number(rest, b" cam=")?;
+    let class = read_last(rest, b" class=")?;
+    Some(Event::Join { camera, class })
 }
 
 fn read_request(rest: &[u8]) -> Option<Event> {
-    let camera = read_pair(rest, b"request cam=", MOST_32)?;
-    let kind = read_pair(camera.rest, b" kind=", MOST_8)?;
-    let priority = read_pair(kind.rest, b" prio=", MOST_8)?;
-    if priority.rest.len() != 0 {
-        return None;
-    }
+    let (camera, rest) = read_number(rest, b" cam=")?;
+    let (kind, rest) = read_number(rest, b" kind=")?;
+    let priority = read_last(rest, b" prio=")?;
     Some(Event::Request {
-        camera: camera.value,
-        kind: kind.value as u8,
-        priority: priority.value as u8,
+        camera,
+        kind,
+        priority,
     })
+}
+
+fn read_camera(rest: &[u8]) -> Option<u32> {
+    read_last(rest, b" cam=")
+}
+
+// A number that ends the line.
+fn read_last<T: TryFrom<u32> + Drop>(line: &[u8], key: &[u8]) -> Option<T>
+where
+    T::Error: Drop,
+{
+    let (number, rest) = read_number(line, key)?;
+    rest.is_empty().then_some(number)
+}
+
+// A number that fits its type, which bounds it here, and what follows it: a pair without its name, so that each line of
+// a form names both.
+fn read_number<'a, T: TryFrom<u32>>(line: &'a [u8], key: &[u8]) -> Option<(T, &'a [u8])>
+where
+    T::Error: Drop,
+{
+    let pair = read_pair(line, key, u32::MAX)?;
+    let number = T::try_from(pair.value).ok()?;
+    Some((number, pair.rest))
 }

@@ -2,46 +2,58 @@
 ghost use Rattle.std.specs.Prelude.{◌≤◌, IfSome, IfOk};
 
 use crate::forms::{Opening, read_event, read_opening};
-use crate::lines::Lines;
+use crate::lines::{Lines, Numbered};
 use crate::rule::NamedRule;
 use crate::text::{answered, bad_line};
 use arbiter::arbiter::Arbiter;
 use model::acts::{Acts, Reply};
+use model::refusals::Refusal;
 use model::register::{BLANK_ROW, Row};
 use model::settings::Settings;
 use std::alloc::{AllocError, Global};
-use std::fmt;
 
 // The rows that a listing lends to its call.
 const ROWS: usize = 2_000;
+
+// The answer to the line that opens the call.
+const OPENING_REPLY: Reply = Reply {
+    more: false,
+    acts: Acts::Zero,
+};
 
 // The text that the script's listing prints, or want of memory.
 pub fn listing(heap: Global, script: &[u8]) -> Result<String, AllocError> {
     let mut register = vec![in heap; BLANK_ROW; ROWS]?;
     let mut out = String::new(heap);
-    match answer_all(&mut out, script, &mut register) {
-        Ok(()) => Ok(out),
-        Err(_) => Err(AllocError),
-    }
+    answer_all(&mut out, script, &mut register)?;
+    Ok(out)
 }
 
 // Answers every line of the script.
-fn answer_all(out: &mut String, script: &[u8], register: &mut [Row]) -> fmt::Result {
+fn answer_all(out: &mut String, script: &[u8], register: &mut [Row]) -> Result<(), AllocError> {
     let mut lines = Lines::of(script);
-    match until_open(out, &mut lines, register.len())? {
-        None => Ok(()),
-        Some(opened) => {
-            let mut arbiter = Arbiter::open(opened.settings, register);
-            from_open(out, &mut lines, &mut arbiter, &opened.rule)
-        }
-    }
+    let Some(opened) = until_open(out, &mut lines, register.len())? else {
+        return Ok(());
+    };
+    let mut arbiter = Arbiter::open(opened.settings, register);
+    from_open(out, &mut lines, &mut arbiter, &opened.rule)
 }
 
 // A call that is to be opened.
-#[derive(Clone, Copy)]
+#[derive(Clone, Copy, Debug, PartialEq, Eq)]
 struct Opened {
     settings: Settings,
     rule: NamedRule,
+}
+
+impl Opened {
+    fn checked(opening: Opening, lent: usize) -> Result<Opened, Refusal>
+        ensures lent { IfOk result (λ opened. opened.settings.rows ≤ lent) }
+    {
+        let Opening { wanted, rule } = opening;
+        let settings = Settings::checked(wanted, lent)?;
+        Ok(Opened { settings, rule })
+    }
 }
 
 // Answers the lines up to the first that opens a call.
@@ -49,26 +61,17 @@ fn until_open(
     out: &mut String,
     lines: &mut Lines<'_>,
     lent: usize,
-) -> Result<Option<Opened>, fmt::Error>
+) -> Result<Option<Opened>, AllocError>
     ensures lent { IfOk result (λ o. IfSome o (λ opened. opened.settings.rows ≤ lent)) }
 {
-    while let Some(numbered) = lines.next_line() {
-        match read_opening(numbered.line) {
-            None => bad_line(out, numbered.number)?,
-            Some(Opening { wanted, rule }) => match Settings::checked(wanted, lent) {
-                Err(refusal) => answered(out, numbered.number, Err(refusal))?,
-                Ok(settings) => {
-                    answered(
-                        out,
-                        numbered.number,
-                        Ok(Reply {
-                            more: false,
-                            acts: Acts::Zero,
-                        }),
-                    )?;
-                    return Ok(Some(Opened { settings, rule }));
-                }
-            },
+    for Numbered { line, number } in lines {
+        match read_opening(line).map(|opening| Opened::checked(opening, lent)) {
+            None => bad_line(out, number)?,
+            Some(Err(refusal)) => answered(out, number, Err(refusal))?,
+            Some(Ok(opened)) => {
+                answered(out, number, Ok(OPENING_REPLY))?;
+                return Ok(Some(opened));
+            }
         }
     }
     Ok(None)
@@ -80,11 +83,11 @@ fn from_open(
     lines: &mut Lines<'_>,
     arbiter: &mut Arbiter<'_>,
     rule: &NamedRule,
-) -> fmt::Result {
-    while let Some(numbered) = lines.next_line() {
-        match read_event(numbered.line) {
-            None => bad_line(out, numbered.number)?,
-            Some(event) => answered(out, numbered.number, arbiter.handle(rule, event))?,
+) -> Result<(), AllocError> {
+    for Numbered { line, number } in lines {
+        match read_event(line) {
+            None => bad_line(out, number)?,
+            Some(event) => answered(out, number, arbiter.handle(rule, event))?,
         }
     }
     Ok(())
