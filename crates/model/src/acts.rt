@@ -71,7 +71,8 @@ impl Act {
         }
     }
 
-    // The grant number, or 0 where the act is about no grant.
+    // The grant number, or 0 where the act is about no grant: a listing shows a number at each place, so this is no
+    // `Option`.
     pub fn number(self) -> u16
         ensures value { result ≡ act_number self }
     {
@@ -100,7 +101,7 @@ impl Act {
         }
     }
 
-    // Seconds left, place or cause, or 0 where the act has none of them.
+    // Seconds left, place or cause, or 0 where the act has none of them, as a listing shows it.
     pub fn value(self) -> u32
         ensures value { result ≡ act_value self }
     {

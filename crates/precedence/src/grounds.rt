@@ -15,8 +15,8 @@ pub enum Kind {
     Emergency = 2,
 }
 
-// A number that is no kind's. It has a type, so that it has its own text and becomes its own refusal by `?`; one for all
-// numbers would be no plainer.
+// A number that is no kind's. It has a type, so that it has its own text and becomes its own refusal by `?`; one for
+// all numbers would be no plainer.
 #[derive(Clone, Copy, Debug, PartialEq, Eq)]
 pub struct UnknownKind(pub u8);
 
