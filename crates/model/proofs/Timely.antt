@@ -1,8 +1,8 @@
 -- What the clock keeps: it never goes back, it stops at the first alarm that is due, and that alarm alone acts.
-use Rattle.std.proofs.Common.{◌≡◌, ℕ, zero, suc, ◌+◌, ◌<◌, ◌≤◌, max, Bool, true, false, cond, ◌||◌, ltb, List, [], ◌∷◌, length, drop, Some, None, Option, sym, refl, ap, ◌∙◌, subst, inl, inr, arith, find}
+use Rattle.std.proofs.Common.{◌≡◌, ℕ, zero, suc, ◌+◌, ◌<◌, ◌≤◌, max, Bool, true, false, cond, ltb, List, [], ◌∷◌, length, drop, Some, None, Option, sym, refl, ap, ◌∙◌, subst, inl, inr, arith, find, is_some}
 use Rattle.std.specs.List.{insert as inserted, AllByRecursion, list_any}
 use Rattle.std.proofs.ByRecursion.{All-weaker}
-use Rattle.std.proofs.lemmas.Bool.{cases_lt, cases_Bool, cond_both, cond-true, cond-false, both_ways, or_left, or_from, lt-ltb, le-ltb, eqb-true, eq-eqb}
+use Rattle.std.proofs.lemmas.Bool.{cases_lt, cases_Bool, cond_both, cond-true, cond-false, both_ways, lt-ltb, le-ltb, eqb-true, eq-eqb}
 use Rattle.order.specs.Lines.{Ordered, at_place, insert, joined, place_of}
 use Rattle.order.specs.declared.standing.Standing.TheVariants.{Ahead, Level, Behind}
 use Rattle.precedence.specs.Rules.{by_due}
@@ -23,6 +23,7 @@ use Rattle.model.specs.declared.acts.Acts.{Acts}
 use Rattle.model.specs.declared.causes.EndCause.TheVariants as end
 use Rattle.model.specs.declared.tables.Transmission.{Transmission}
 use Rattle.model.proofs.Cases.{clock_cases}
+use Rattle.model.proofs.Words.{some_found}
 
 -- one that is not behind another by due second is not due later
 not_later : (a b : Alarm) → (by_due a b ≡ Behind → ⊥) → a.due ≤ b.due
@@ -48,23 +49,17 @@ none_there P (x ∷ xs) e = absurd (let z : ◌≡◌ {A = ℕ} 0 1 = cc in omeg
 
 -- whether one passes, by the first that does
 missing : {X : Type 0} (p : X → Bool) (xs : List X) → find p xs ≡ None → list_any p xs ≡ false
-missing p [] e = refl
-missing p (x ∷ xs) e = elim (cases_Bool (p x)) [
-  | inl is ↦ absurd (let f : Some x ≡ None = sym (cond-true (p x) (Some x) (find p xs) is) ∙ e in let z : ◌≡◌ {A = ℕ} 0 1 = cc in omega arith)
-  | inr isnt ↦ or_from (p x) (list_any p xs) isnt (missing p xs (sym (cond-false (p x) (Some x) (find p xs) isnt) ∙ e))
+missing p xs e = sym (some_found p xs) ∙ ap is_some e
+
+passes : {X : Type 0} (p : X → Bool) (xs : List X) (y : X) → find p xs ≡ Some y → p y ≡ true
+passes p [] y e = absurd (let z : ◌≡◌ {A = ℕ} 0 1 = cc in omega arith)
+passes p (x ∷ xs) y e = elim (cases_Bool (p x)) [
+  | inl is ↦ let same : Some x ≡ Some y = sym (cond-true (p x) (Some x) (find p xs) is) ∙ e in let one : x ≡ y = cc in ap p (sym one) ∙ is
+  | inr isnt ↦ passes p xs y (sym (cond-false (p x) (Some x) (find p xs) isnt) ∙ e)
 ]
 
 present : {X : Type 0} (p : X → Bool) (xs : List X) (y : X) → find p xs ≡ Some y → (list_any p xs ≡ true) × (p y ≡ true)
-present p [] y e = absurd (let z : ◌≡◌ {A = ℕ} 0 1 = cc in omega arith)
-present p (x ∷ xs) y e = elim (cases_Bool (p x)) [
-  | inl is ↦
-      let f : Some x ≡ Some y = sym (cond-true (p x) (Some x) (find p xs) is) ∙ e in
-      let same : x ≡ y = cc in
-      (or_left (p x) (list_any p xs) is, ap p (sym same) ∙ is)
-  | inr isnt ↦
-      let rest = present p xs y (sym (cond-false (p x) (Some x) (find p xs) isnt) ∙ e) in
-      (ap (λ b. b || list_any p xs) isnt ∙ rest.0, rest.1)
-]
+present p xs y e = (sym (some_found p xs) ∙ ap is_some e, passes p xs y e)
 
 -- the others stay when the first alarm is dropped, and when one is set
 

@@ -20,9 +20,15 @@ pub record TakesFirst (before : Lines) (taken : Numbered) (after : Lines) : Type
   pub line : taken.line.now ≡ take (line_end (octets_left before)) (octets_left before)
   pub number : taken.number ≡ min (last_number before + 1) (2 ^ 64 - 1)
   pub counted : last_number after ≡ taken.number
-  pub left : octets_left after ≡ drop (min (line_end (octets_left before) + 1) (length (octets_left before))) (octets_left before)
+  pub left : octets_left after ≡ drop (line_end (octets_left before) + 1) (octets_left before)
   pub shorter : length (octets_left after) < length (octets_left before)
+
+-- nothing is taken, since nothing is left, and nothing changes
+pub record TakesNone (before after : Lines) : Type 0 where
+  pub none_left : octets_left before ≡ []
+  pub none_after : octets_left after ≡ []
+  pub same_number : last_number after ≡ last_number before
 
 -- the first line is taken, if an octet is left
 abbrev pub TakesLine : Lines → Option Numbered → Lines → Type 0
-TakesLine before taken after = MatchOption taken (octets_left before ≡ []) (λ numbered. TakesFirst before numbered after)
+TakesLine before taken after = MatchOption taken (TakesNone before after) (λ numbered. TakesFirst before numbered after)
