@@ -11,7 +11,9 @@ abbrev pub recall_number : RecallCause → ℕ
 recall_number recall.TimeOut = 2
 recall_number recall.PreEmption = 4
 
+-- 0 while it has not ended
 abbrev pub end_number : EndCause → ℕ
+end_number end.NotEnded = 0
 end_number end.Release = 1
 end_number end.TimeOut = 2
 end_number end.Leave = 3

@@ -138,6 +138,7 @@ by_recall n recall.TimeOut = (n, Talk) ∷ []
 by_recall n recall.PreEmption = []
 
 abbrev pub by_end : ℕ → EndCause → List (ℕ × AlarmKind)
+by_end n end.NotEnded = []
 by_end n end.Release = []
 by_end n end.TimeOut = (n, Grace) ∷ []
 by_end n end.Leave = []

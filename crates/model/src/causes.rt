@@ -20,6 +20,8 @@ impl From<RecallCause> for u8 {
 
 #[derive(Clone, Copy, Debug, PartialEq, Eq)]
 pub enum EndCause {
+    // No call ends a grant for this: a row or an act may have it only as it was lent.
+    NotEnded = 0,
     Release = 1,
     TimeOut = 2,
     Leave = 3,
