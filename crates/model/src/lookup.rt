@@ -65,6 +65,25 @@ impl Keyed<OfGrant> for Alarm {
     }
 }
 
+// A test of entries of one kind: what a caller looks for that no key of this crate says.
+pub trait Test {
+    type Item;
+
+    ghost passes: { Self → Self.Item → Bool };
+
+    fn passes(&self, item: &Self::Item) -> bool
+        ensures test { result ≡ passes self.now item.now };
+}
+
+// Every test is a key of what it tests.
+impl<T, K: Test<Item = T>> Keyed<K> for T {
+    ghost has = { λ entry key. K.Test.passes key entry };
+
+    fn has(entry: &T, key: &K) -> bool {
+        key.passes(entry)
+    }
+}
+
 // The first that has the key, if any.
 pub fn first_with<T: Keyed<K> + Copy, K>(entries: &[T], key: &K) -> Option<T>
     ensures item { result ≡ find (λ entry. T.has entry key.now) entries.now }
