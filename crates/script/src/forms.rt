@@ -8,6 +8,8 @@ use precedence::rules::{Plain, Urgent};
 
 // The server's SSRC in every listing.
 const SERVER: u32 = 1;
+// How many letters the longest word of an event has. A space is looked for no further: a line may be long, and be bad.
+const LONGEST_WORD: usize = 8;
 
 // Opens a call with these settings under this rule.
 #[derive(Clone, Copy, Debug, PartialEq, Eq)]
@@ -49,7 +51,8 @@ fn read_rule(name: &[u8]) -> Option<NamedRule> {
 
 pub fn read_event(line: &[u8]) -> Option<Event> {
     let event = after(line, b"do=")?;
-    let end = event.iter().position(|octet| *octet == b' ')?;
+    let mut first = event.iter().take(LONGEST_WORD + 1);
+    let end = first.position(|octet| *octet == b' ')?;
     let (word, rest) = event.split_at(end);
     match word {
         b"join" => read_join(rest),
