@@ -165,14 +165,29 @@ impl Acts {
     pub fn len(self) -> usize
         ensures value { result ≡ length (listed self) }
     {
-        self.into_iter().count()
+        // Not `count` of the iterator, which takes more than ten times the time.
+        match self {
+            Acts::Zero => 0,
+            Acts::One { .. } => 1,
+            Acts::Two { .. } => 2,
+            Acts::Three { .. } => 3,
+        }
     }
 
     // The act at an index, from 0, if any.
     pub fn get(self, index: usize) -> Option<Act>
         ensures item { result ≡ slice_get (listed self) index }
     {
-        self.into_iter().nth(index)
+        // Not `nth` of the iterator, which takes more than one and a half times the time.
+        match (self, index) {
+            (Acts::One { first }, 0) => Some(first),
+            (Acts::Two { first, .. }, 0) => Some(first),
+            (Acts::Two { second, .. }, 1) => Some(second),
+            (Acts::Three { first, .. }, 0) => Some(first),
+            (Acts::Three { second, .. }, 1) => Some(second),
+            (Acts::Three { third, .. }, 2) => Some(third),
+            (_, _) => None,
+        }
     }
 }
 
