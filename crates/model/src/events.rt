@@ -23,3 +23,10 @@ pub enum CameraEvent {
     Cancel,
     Position,
 }
+
+// The camera that an event comes from, and its place among the members, from 1.
+#[derive(Clone, Copy, Debug, PartialEq, Eq)]
+pub struct Sender {
+    pub camera: u32,
+    pub place: usize,
+}

@@ -8,7 +8,7 @@ use Rattle.std.proofs.lemmas.Slice.{between_is}
 use Rattle.order.specs.Lines.{laid, without}
 
 -- a line laid over the places is what their first places then hold
-taken : {X : Type 0} (line xs : List X) (m : ℕ) → m ≡ length line → take m (laid line xs) ≡ line
+pub taken : {X : Type 0} (line xs : List X) (m : ℕ) → m ≡ length line → take m (laid line xs) ≡ line
 taken line xs m e = take_at line (drop (length line) xs) m (sym e)
 
 -- the slice ys after the shift, with x written at k, and the line that it then holds
