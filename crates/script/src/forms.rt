@@ -8,8 +8,6 @@ use precedence::rules::{Plain, Urgent};
 
 // The server's SSRC in every listing.
 const SERVER: u32 = 1;
-// How many letters the longest word of an event has. A space is looked for no further: a line may be long, and be bad.
-const LONGEST_WORD: usize = 8;
 
 // Opens a call with these settings under this rule.
 #[derive(Clone, Copy, Debug, PartialEq, Eq)]
@@ -49,31 +47,27 @@ fn read_rule(name: &[u8]) -> Option<NamedRule> {
     }
 }
 
+// The first letter tells which words there may be, so that a line is not read through for its word.
 pub fn read_event(line: &[u8]) -> Option<Event> {
     let event = after(line, b"do=")?;
-    let mut first = event.iter().take(LONGEST_WORD + 1);
-    let end = first.position(|octet| *octet == b' ')?;
-    let (word, rest) = event.split_at(end);
-    match word {
-        b"join" => read_join(rest),
-        b"leave" => read_camera(rest).map(|camera| Event::Leave { camera }),
-        b"request" => read_request(rest),
-        b"release" => read_camera(rest).map(|camera| Event::Release { camera }),
-        b"cancel" => read_camera(rest).map(|camera| Event::Cancel { camera }),
-        b"position" => read_camera(rest).map(|camera| Event::Position { camera }),
-        b"clock" => read_last(rest, b" to=").map(|to| Event::Clock { to }),
+    match event.first()? {
+        b'j' => read_join(event),
+        b'l' => read_last(event, b"leave cam=").map(|camera| Event::Leave { camera }),
+        b'r' => read_request(event).or_else(|| read_release(event)),
+        b'c' => read_cancel(event).or_else(|| read_clock(event)),
+        b'p' => read_last(event, b"position cam=").map(|camera| Event::Position { camera }),
         _ => None,
     }
 }
 
-fn read_join(rest: &[u8]) -> Option<Event> {
-    let (camera, rest) = read_number(rest, b" cam=")?;
+fn read_join(event: &[u8]) -> Option<Event> {
+    let (camera, rest) = read_number(event, b"join cam=")?;
     let class = read_last(rest, b" class=")?;
     Some(Event::Join { camera, class })
 }
 
-fn read_request(rest: &[u8]) -> Option<Event> {
-    let (camera, rest) = read_number(rest, b" cam=")?;
+fn read_request(event: &[u8]) -> Option<Event> {
+    let (camera, rest) = read_number(event, b"request cam=")?;
     let (kind, rest) = read_number(rest, b" kind=")?;
     let priority = read_last(rest, b" prio=")?;
     Some(Event::Request {
@@ -83,8 +77,16 @@ fn read_request(rest: &[u8]) -> Option<Event> {
     })
 }
 
-fn read_camera(rest: &[u8]) -> Option<u32> {
-    read_last(rest, b" cam=")
+fn read_release(event: &[u8]) -> Option<Event> {
+    read_last(event, b"release cam=").map(|camera| Event::Release { camera })
+}
+
+fn read_cancel(event: &[u8]) -> Option<Event> {
+    read_last(event, b"cancel cam=").map(|camera| Event::Cancel { camera })
+}
+
+fn read_clock(event: &[u8]) -> Option<Event> {
+    read_last(event, b"clock to=").map(|to| Event::Clock { to })
 }
 
 // A number that ends the line.

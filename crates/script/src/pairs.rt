@@ -10,7 +10,12 @@ pub struct Pair<'a> {
 
 // What follows the fixed text, if the line begins with it.
 pub fn after<'a>(line: &'a [u8], text: &[u8]) -> Option<&'a [u8]> {
-    line.strip_prefix(text)
+    // As `strip_prefix`, in less time.
+    if line.starts_with(text) {
+        Some(&line[text.len()..])
+    } else {
+        None
+    }
 }
 
 // A key, with all that stands around it, and a number of at most `most`. A number of fewer bits is bounded by its type,
