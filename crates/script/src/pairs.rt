@@ -10,12 +10,12 @@ pub struct Pair<'a> {
 
 // What follows the fixed text, if the line begins with it.
 pub fn after<'a>(line: &'a [u8], text: &[u8]) -> Option<&'a [u8]> {
-    // As `strip_prefix`, in less time.
-    if line.starts_with(text) {
-        Some(&line[text.len()..])
-    } else {
-        None
-    }
+    // As `strip_prefix`, in less time: octet by octet, up to the first that differs.
+    let (head, rest) = line.split_at_checked(text.len())?;
+    head.iter()
+        .zip(text)
+        .all(|(octet, wanted)| octet == wanted)
+        .then_some(rest)
 }
 
 // A key, with all that stands around it, and a number of at most `most`. A number of fewer bits is bounded by its type,
