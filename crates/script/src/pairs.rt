@@ -10,7 +10,7 @@ pub struct Pair<'a> {
 
 // What follows the fixed text, if the line begins with it.
 pub fn after<'a>(line: &'a [u8], text: &[u8]) -> Option<&'a [u8]> {
-    // As `strip_prefix`, in less time: octet by octet, up to the first that differs.
+    // `strip_prefix` says the same. Written out, openings and most events are read in fewer instructions.
     let (head, rest) = line.split_at_checked(text.len())?;
     head.iter()
         .zip(text)
